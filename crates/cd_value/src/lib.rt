@@ -1,0 +1,32 @@
+//! The plain values of the daemon: texts, identifiers, data sets, values, value lists, notifications.
+#![tactic(auto)]
+
+mod data;
+mod identifier;
+mod memory;
+mod sequence;
+mod text;
+
+pub use data::{
+    DataSet, DataSource, DsType, FlushRequest, Notification, Offered, Rate, Severity, Value,
+    ValueList,
+};
+pub use identifier::Identifier;
+pub use memory::{Memory, Refused, TryCopy};
+pub use sequence::Sequence;
+pub use text::Text;
+
+/// The values of a value list, one for each data source of its type.
+pub type Values = Sequence<Value>;
+/// The data sources of a data set, in order.
+pub type Sources = Sequence<DataSource>;
+/// Value lists, in order.
+pub type Lists = Sequence<ValueList>;
+/// Rates, one for each data source.
+pub type Rates = Sequence<Rate>;
+/// Names, in order.
+pub type Names = Sequence<Text>;
+/// What became of each list that was offered to the write queue.
+pub type Fates = Sequence<Offered>;
+/// The times (in 2^-30 s) and names of cached value lists.
+pub type Rows = Sequence<(u64, Text)>;
