@@ -11,5 +11,5 @@ mod memory;
 mod traits;
 
 pub use adapters::{RealClock, RealDice, RealWorld, Streams};
-pub use memory::{LinkCalls, MemClock, MemDice, MemLink, MemWorld};
+pub use memory::{LinkPlan, MemClock, MemDice, MemLink, MemWorld};
 pub use traits::{Clock, Dice, Failed, Heard, Link, World};

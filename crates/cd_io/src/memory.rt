@@ -5,6 +5,6 @@ mod time;
 mod world;
 
 pub use chance::MemDice;
-pub use link::{LinkCalls, MemLink};
+pub use link::{LinkPlan, MemLink};
 pub use time::MemClock;
 pub use world::MemWorld;
