@@ -13,3 +13,6 @@ mod traits;
 pub use adapters::{RealClock, RealDice, RealWorld, Streams};
 pub use memory::{LinkPlan, MemClock, MemDice, MemLink, MemWorld};
 pub use traits::{Clock, Dice, Failed, Heard, Link, World};
+
+#[cfg(test)]
+mod tests;

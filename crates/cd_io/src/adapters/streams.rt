@@ -1,5 +1,5 @@
 // A reader and a writer as a link.
-ghost use Rattle.std.specs.Prelude.{◌≡◌, ◌<◌, ◌≤◌, None, length};
+ghost use Rattle.std.specs.Prelude.{◌≡◌, ◌≤◌, None, IfOk, length};
 
 use crate::{Failed, Heard, Link};
 use std::io::{self, ErrorKind, Read, Write};
@@ -62,12 +62,13 @@ impl<R: Read + Send + Drop, W: Write + Send + Drop> Link for Streams<R, W> {
     }
 
     fn say(&mut self, bytes: &[u8]) -> Result<usize, Failed> {
-        let taken = write_some(&mut self.writer, bytes);
-        if taken == 0 && !bytes.is_empty() {
-            self.faults = self.faults.saturating_add(1);
-            return Err(Failed);
+        match write_some(&mut self.writer, bytes) {
+            Ok(taken) if taken > 0 || bytes.is_empty() => Ok(taken),
+            _ => {
+                self.faults = self.faults.saturating_add(1);
+                Err(Failed)
+            }
         }
-        Ok(taken)
     }
 }
 
@@ -79,16 +80,19 @@ fn is_quiet(error: &io::Error) -> bool {
     )
 }
 
-/// Writes the first bytes of a piece and flushes them. The answer is how many, 0 after an error.
-fn write_some<W: Write>(writer: &mut W, bytes: &[u8]) -> usize
-    ensures { result ≤ length bytes.now }
+/// Writes the first bytes of a piece, flushes them, and answers how many.
+fn write_some<W: Write>(writer: &mut W, bytes: &[u8]) -> io::Result<usize>
+    ensures { IfOk result (λ n. n ≤ length bytes.now) }
 {
     for _ in 0..TRIES {
         match writer.write(bytes) {
-            Ok(taken) => return if writer.flush().is_ok() { taken } else { 0 },
+            Ok(taken) => {
+                writer.flush()?;
+                return Ok(taken);
+            }
             Err(error) if error.kind() == ErrorKind::Interrupted => {}
-            Err(_) => return 0,
+            Err(error) => return Err(error),
         }
     }
-    0
+    Err(io::Error::from(ErrorKind::Interrupted))
 }
