@@ -1,6 +1,6 @@
 -- Who is registered.
 use Rattle.std.specs.Prelude.{ℕ, ◌==◌, Bool, true, false, ◌||◌, ◌&&◌, not, nat_eq, List, [], ◌∷◌, ◌++◌, length, map, bit_and, Option, None, Some, Ok, Err}
-use Rattle.std.specs.Cmp.Lexicographic.{pointwise}
+use Rattle.std.specs.Str.{bytes_eq}
 use Rattle.std.specs.List.{filter, find}
 use Rattle.std.specs.Option.{option_map}
 use Rattle.cd_history.specs.declared.entry.Entry.{Entry}
@@ -11,7 +11,7 @@ use Rattle.cd_history.specs.History.{History, ◌▸◌}
 
 -- two texts have the same bytes
 abbrev pub is_text : List ℕ → List ℕ → Bool
-is_text = pointwise nat_eq
+is_text = bytes_eq
 
 pub record Registration : Type 0 where
   pub number : ℕ

@@ -1,0 +1,73 @@
+-- The answers of a one-thread daemon after a history.
+use Rattle.std.specs.Prelude.{ℕ, Bool, true, false, ◌||◌, ◌&&◌, not, nat_eq, nat_le, is_some, if◌then◌else◌, List, [], ◌∷◌, map, length, slice_get, codes, Option, None, Some, Result, Ok, Err}
+use Rattle.std.specs.List.{find, list_any}
+use Rattle.cd_value.specs.declared.data.ValueList.{ValueList}
+use Rattle.cd_value.specs.declared.data.Offered.{Offered}
+use Rattle.cd_value.specs.declared.data.Offered.TheVariants.{Kept}
+use Rattle.cd_registry.specs.declared.calls.Call.{Call}
+use Rattle.cd_history.specs.declared.entry.Handled.{Handled}
+use Rattle.cd_history.specs.declared.entry.How.TheVariants.{Stored}
+use Rattle.cd_history.specs.declared.entry.RegisterFault.{RegisterFault}
+use Rattle.cd_history.specs.declared.entry.RegisterFault.TheVariants as refused
+use Rattle.cd_history.specs.declared.entry.RetireFault.{RetireFault}
+use Rattle.cd_history.specs.declared.entry.RetireFault.TheVariants as held_back
+use Rattle.cd_history.specs.declared.entry.Stopping.{Stopping}
+use Rattle.cd_history.specs.History.{History, handles, is_stopped, kept}
+use Rattle.cd_history.specs.Registrations.{Registration, registrations, live, live_number, is_text, is_plug, is_closed, is_retired}
+use Rattle.cd_history.specs.Leases.{taken_by, takes}
+use Rattle.cd_daemon.specs.Calls.{calls_to, pending}
+
+-- the answer, unless a stop came before
+abbrev pub unless_stopped : {A : Type 0} → History → A → Result A Stopping
+unless_stopped P answer = if is_stopped P then Err (record {}) else Ok answer
+
+-- the names of the daemon's own writers and listeners
+abbrev pub is_reserved : List ℕ → Bool
+is_reserved name = list_any (is_text name) (codes "threshold" ∷ codes "unixsock" ∷ codes "network" ∷ [])
+
+-- at most 256 registrations are live
+abbrev pub register_answer : History → List ℕ → Result ℕ RegisterFault
+register_answer P name =
+    if is_stopped P then Err refused.Stopping
+    else if is_reserved name then Err refused.Reserved
+    else elim (live_number name P) [
+      | Some r ↦ Err (refused.NameTaken r)
+      | None ↦ if nat_le 256 (length (live P)) then Err refused.TableFull else Ok (length (registrations P))
+    ]
+
+-- the number of the live registration of the name, or none
+abbrev pub close_answer : History → List ℕ → Option ℕ
+close_answer P name = live_number name P
+
+abbrev pub home_or_pending : ℕ → Result (Unit {0}) RetireFault
+home_or_pending n = if nat_eq n 0 then Ok tt else Err (held_back.Pending n)
+
+-- the object of a closed registration is handed out once, when it is at home and no call waits for it
+abbrev pub retire_answer : History → ℕ → Result (Unit {0}) RetireFault
+retire_answer P r =
+    if not (is_closed r P) || is_retired r P then Err held_back.NotRegistered
+    else elim (taken_by r P) [ Some a ↦ Err (held_back.Out a) | None ↦ home_or_pending (pending P r) ]
+
+-- each list is kept
+abbrev pub accept_answer : History → List ValueList → Result (List Offered) Stopping
+accept_answer P lists = unless_stopped P (map (λ list. Kept) lists)
+
+-- each list is stored, and no writer is skipped
+abbrev pub handle_answer : History → ℕ → Handled
+handle_answer P now = record { how = Stored; skipped = 0 }
+
+-- a plug-in that is at home and for which a call waits
+abbrev pub is_ready : History → Registration → Bool
+is_ready P g = is_plug g.joining && not (is_retired g.number P) && not (is_some (taken_by g.number P)) && not (nat_eq (pending P g.number) 0)
+
+-- the least of them
+abbrev pub ready : History → Option ℕ
+ready P = elim (find (is_ready P) (registrations P)) [ None ↦ None | Some g ↦ Some g.number ]
+
+-- the call that the next Take of r gets
+abbrev pub next_call : History → ℕ → Option Call
+next_call P r = slice_get (calls_to r P) (takes r P)
+
+-- nothing is queued, and no plug-in is ready
+abbrev pub is_idle : History → Bool
+is_idle P = nat_le (length (kept P)) (handles P) && not (is_some (ready P))
