@@ -1,5 +1,5 @@
 -- Who is registered.
-use Rattle.std.specs.Prelude.{ℕ, ◌==◌, Bool, true, false, ◌||◌, ◌&&◌, not, nat_eq, List, [], ◌∷◌, ◌++◌, length, map, bit_and, Option, None, Some, Ok, Err}
+use Rattle.std.specs.Prelude.{ℕ, ◌==◌, Bool, true, false, ◌||◌, ◌&&◌, not, nat_eq, if◌then◌else◌, List, [], ◌∷◌, ◌++◌, length, map, bit_and, Option, None, Some, Ok, Err}
 use Rattle.std.specs.Str.{bytes_eq}
 use Rattle.std.specs.List.{filter, find}
 use Rattle.std.specs.Option.{option_map}
@@ -67,5 +67,5 @@ live_number name P = option_map (λ g. g.number) (find (λ g. is_text g.name nam
 -- who closed r
 abbrev pub closed_by : ℕ → History → Option ℕ
 closed_by r [] = None
-closed_by r (P ▸ entry.Close a name (Some n)) = elim (nat_eq n r) [ true ↦ Some a | false ↦ closed_by r P ]
+closed_by r (P ▸ entry.Close a name (Some n)) = if nat_eq n r then Some a else closed_by r P
 closed_by r (P ▸ e) = closed_by r P

@@ -1,0 +1,2 @@
+//! The top calls of the daemon.
+#![tactic(auto)]
