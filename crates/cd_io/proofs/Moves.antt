@@ -1,5 +1,5 @@
 -- What is told over two calls, one after another.
-use Rattle.std.proofs.Common.{◌≡◌, ℕ, List, [], ◌++◌, Option, None, Some, refl, sym, ◌∙◌, ap, append_assoc, append-nil}
+use Rattle.std.proofs.Common.{ℕ, List, [], ◌++◌, Option, None, Some, refl, sym, ◌∙◌, ap, append_assoc, append-nil}
 use Rattle.cd_io.specs.Told.{Moves, Stays, Grows, Loses, Adds}
 
 -- two moves, one after the other, are a move by any step that they make together

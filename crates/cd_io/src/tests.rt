@@ -71,34 +71,35 @@ fn memory_goes_by_its_plan(rt: HostRuntime) -> Result<(), Fail> {
 }
 
 #[test]
-fn adapters_reach_the_outside(rt: HostRuntime) -> Result<(), Fail> {
-    let alloc = rt.alloc();
-    let mut streams = Streams::new(b"abc".as_slice(), Vec::new(alloc));
+fn streams_are_a_link(rt: HostRuntime) {
+    let mut link = Streams::new(b"abc".as_slice(), Vec::new(rt.alloc()));
     let mut buf = *b"....";
-    assert_eq!(rt; streams.hear(&mut buf), Ok(Heard::Got(3)));
-    assert_eq!(rt; &buf, b"abc.");
-    assert_eq!(rt; streams.hear(&mut buf), Ok(Heard::End));
-    assert_eq!(rt; streams.say(b"123"), Ok(3));
-    let kinds = [
-        (ErrorKind::Interrupted, Ok(Heard::Quiet)),
-        (ErrorKind::WouldBlock, Ok(Heard::Quiet)),
-        (ErrorKind::TimedOut, Ok(Heard::Quiet)),
-        (ErrorKind::BrokenPipe, Err(Failed)),
-    ];
-    for (kind, answer) in kinds {
-        let mut broken = Streams::new(Broken(kind), Broken(kind));
-        assert_eq!(rt; broken.hear(&mut buf), answer);
-        assert_eq!(rt; broken.say(b"123"), Err(Failed));
-        assert_eq!(rt; broken.say(b""), Err(Failed));
+    assert!(rt; matches!(link.hear(&mut buf), Ok(Heard::Got(3))));
+    assert!(rt; matches!(buf, [b'a', b'b', b'c', b'.']));
+    assert!(rt; matches!(link.hear(&mut buf), Ok(Heard::End)));
+    assert!(rt; matches!(link.say(b"123"), Ok(3)));
+    for kind in [
+        ErrorKind::Interrupted,
+        ErrorKind::WouldBlock,
+        ErrorKind::TimedOut,
+    ] {
+        let mut link = Streams::new(Broken(kind), Broken(kind));
+        assert!(rt; matches!(link.hear(&mut buf), Ok(Heard::Quiet)));
+        assert!(rt; link.say(b"").is_err());
     }
+    let mut link = Streams::new(Broken(ErrorKind::BrokenPipe), Vec::new(rt.alloc()));
+    assert!(rt; link.hear(&mut buf).is_err());
+}
 
+#[test]
+fn the_real_world_goes_on(rt: HostRuntime) -> Result<(), Fail> {
     let mut world = RealWorld::new(rt);
     let mut clock = world.clock();
     let before = clock.now();
-    assert!(rt; before >> 30 > 1_700_000_000);
     clock.pause();
-    let later = clock.fork().now().saturating_sub(before);
-    assert!(rt; later >= 1 << 26 && later < 1 << 34);
+    let later = clock.fork().now();
+    assert!(rt; before >> 30 > 1_700_000_000);
+    assert!(rt; later.saturating_sub(before) >> 26 > 0);
     let mut dice = world.dice();
     let word = dice.fork().word();
     assert_eq!(rt; dice.word(), word);

@@ -11,6 +11,17 @@ use std::marker::Send;
 #[derive(Clone, Copy, Debug, PartialEq, Eq)]
 pub struct Failed;
 
+impl Failed {
+    /// Counts a fault, and makes its answer.
+    pub(crate) fn counted(faults: &mut u64) -> Self
+        ensures later { faults.old ≤ faults.new }
+        ensures rose { Rose faults.old faults.new }
+    {
+        *faults = faults.saturating_add(1);
+        Failed
+    }
+}
+
 /// What a link heard.
 #[derive(Clone, Copy, Debug, PartialEq, Eq)]
 pub enum Heard {

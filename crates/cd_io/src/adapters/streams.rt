@@ -54,20 +54,14 @@ impl<R: Read + Send + Drop, W: Write + Send + Drop> Link for Streams<R, W> {
                 self.quiets = self.quiets.saturating_add(1);
                 Ok(Heard::Quiet)
             }
-            Err(_) => {
-                self.faults = self.faults.saturating_add(1);
-                Err(Failed)
-            }
+            Err(_) => Err(Failed::counted(&mut self.faults)),
         }
     }
 
     fn say(&mut self, bytes: &[u8]) -> Result<usize, Failed> {
         match write_some(&mut self.writer, bytes) {
             Ok(taken) if taken > 0 || bytes.is_empty() => Ok(taken),
-            _ => {
-                self.faults = self.faults.saturating_add(1);
-                Err(Failed)
-            }
+            _ => Err(Failed::counted(&mut self.faults)),
         }
     }
 }

@@ -130,8 +130,7 @@ impl Link for MemLink {
         let number = self.hears;
         self.hears = number.saturating_add(1);
         if self.plan.failing_hears.contains(&number) {
-            self.faults = self.faults.saturating_add(1);
-            return Err(Failed);
+            return Err(Failed::counted(&mut self.faults));
         }
         if self.plan.quiet_hears.contains(&number) {
             self.quiets = self.quiets.saturating_add(1);
@@ -167,8 +166,7 @@ impl Link for MemLink {
         let number = self.says;
         self.says = number.saturating_add(1);
         if self.plan.failing_says.contains(&number) {
-            self.faults = self.faults.saturating_add(1);
-            return Err(Failed);
+            return Err(Failed::counted(&mut self.faults));
         }
         if let Some(output) = &mut self.output {
             if output.extend_from_slice(bytes).is_err() {
