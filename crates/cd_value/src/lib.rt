@@ -4,6 +4,8 @@
 mod data;
 mod identifier;
 mod memory;
+mod print;
+mod rate;
 mod sequence;
 mod text;
 
@@ -13,6 +15,7 @@ pub use data::{
 };
 pub use identifier::{IdFault, Identifier};
 pub use memory::{Memory, Refused, TryCopy};
+pub use print::print_millionths;
 pub use sequence::Sequence;
 pub use text::Text;
 
