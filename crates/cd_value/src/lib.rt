@@ -2,6 +2,7 @@
 #![tactic(auto)]
 
 mod data;
+mod field;
 mod identifier;
 mod memory;
 mod print;
@@ -13,6 +14,7 @@ pub use data::{
     DataSet, DataSource, DsType, FlushRequest, Notification, Offered, Rate, Severity, Value,
     ValueList,
 };
+pub use field::{clean, longest_front};
 pub use identifier::{IdFault, Identifier};
 pub use memory::{Memory, Refused, TryCopy};
 pub use print::print_millionths;
