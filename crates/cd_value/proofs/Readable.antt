@@ -1,9 +1,9 @@
 -- The fields of a text without a fault make an identifier.
-use Rattle.std.proofs.Common.{◌≡◌, ℕ, true, false, not, ◌||◌, List, length, refl}
+use Rattle.std.proofs.Common.{◌≡◌, ℕ, Bool, true, false, not, ◌||◌, ◌&&◌, ◌≤◌, List, length, refl}
 use Rattle.std.specs.Prelude.{nat_le, nat_lt}
 use Rattle.std.specs.List.{list_any, list_all, after_first}
-use Rattle.std.proofs.lemmas.Bool.{or_parts, not-false, ltb-false, le-leb}
-use Rattle.cd_value.specs.Identifier.{Fields, is_control, is_slash, is_empty, is_type_byte, is_identifier, plugin_part, type_part, fields_of, has_bad_field, has_long_field}
+use Rattle.std.proofs.lemmas.Bool.{or_parts, and_parts, not-false, ltb-false, le-leb, leb-true}
+use Rattle.cd_value.specs.Identifier.{Fields, is_control, is_slash, is_empty, is_type_byte, is_field, is_identifier, plugin_part, type_part, fields_of, has_bad_field, has_long_field}
 use Rattle.cd_value.proofs.Cuts.{list_any_take, list_any_drop, list_any_before_first}
 
 short : (bytes : List ℕ) → nat_lt 127 (length bytes) ≡ false → nat_le (length bytes) 127 ≡ true
@@ -74,3 +74,20 @@ fields_plain text e =
 -- the fields of a text without a fault make an identifier
 pub readable : (text : List ℕ) → list_any is_control text ≡ false → has_bad_field (fields_of text) ≡ false → has_long_field (fields_of text) ≡ false → is_identifier (fields_of text) ≡ true
 readable text plain bad long = fields_make (fields_of text) (fields_plain text plain) bad long
+
+field_length : (bytes : List ℕ) → is_field bytes ≡ true → length bytes ≤ 127
+field_length bytes h = leb-true (length bytes) 127 (and_parts (not (list_any is_control bytes)) (nat_le (length bytes) 127) h).1
+
+abbrev first_five : Fields → Bool
+first_five id = is_field id.host && is_field id.plugin && is_field id.plugin_instance && is_field id.type_name && is_field id.type_instance
+
+-- no field of an identifier has more than 127 bytes
+pub field_lengths : (id : Fields) → is_identifier id ≡ true
+    → (length id.host ≤ 127) × (length id.plugin ≤ 127) × (length id.plugin_instance ≤ 127) × (length id.type_name ≤ 127) × (length id.type_instance ≤ 127)
+field_lengths id h =
+    let fields = and_parts (first_five id) _ (and_parts _ _ (and_parts _ _ (and_parts _ _ (and_parts _ _ (and_parts _ _ (and_parts _ _ h).0).0).0).0).0).0 in
+    let fifth = and_parts _ (is_field id.type_instance) fields.0 in
+    let fourth = and_parts _ (is_field id.type_name) fifth.0 in
+    let third = and_parts _ (is_field id.plugin_instance) fourth.0 in
+    let second = and_parts (is_field id.host) (is_field id.plugin) third.0 in
+    (field_length id.host second.0, field_length id.plugin second.1, field_length id.plugin_instance third.1, field_length id.type_name fourth.1, field_length id.type_instance fifth.1)

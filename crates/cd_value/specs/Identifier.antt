@@ -1,5 +1,5 @@
 -- Which fields make an identifier, and which identifier a text is.
-use Rattle.std.specs.Prelude.{ℕ, Bool, true, false, not, ◌&&◌, ◌||◌, ◌==◌, nat_le, nat_lt, List, [], ◌∷◌, length, count_by, Result, Ok, Err, if◌then◌else◌}
+use Rattle.std.specs.Prelude.{ℕ, Bool, true, false, not, ◌&&◌, ◌||◌, ◌==◌, nat_le, nat_lt, List, [], ◌∷◌, ◌++◌, length, count_by, Result, Ok, Err, if◌then◌else◌}
 use Rattle.std.specs.List.{list_all, list_any, before_first, after_first}
 use Rattle.cd_value.specs.declared.identifier.IdFault.{IdFault}
 use Rattle.cd_value.specs.declared.identifier.IdFault.TheVariants.{BadIdentifier, FieldTooLong}
@@ -79,3 +79,12 @@ abbrev pub read_identifier : List ℕ → Result Fields IdFault
 read_identifier text =
     if is_bad_text text then Err BadIdentifier
     else (if has_long_field (fields_of text) then Err FieldTooLong else Ok (fields_of text))
+
+-- a dash and the instance, and nothing for an empty instance
+abbrev pub dashed : List ℕ → List ℕ
+dashed [] = []
+dashed (byte ∷ bytes) = 45 ∷ byte ∷ bytes
+
+-- the printed identifier, `host/plugin[-instance]/type[-instance]`
+abbrev pub name_of : Fields → List ℕ
+name_of id = id.host ++ 47 ∷ [] ++ id.plugin ++ dashed id.plugin_instance ++ 47 ∷ [] ++ id.type_name ++ dashed id.type_instance

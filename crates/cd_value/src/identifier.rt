@@ -1,8 +1,8 @@
 // The identifier of a value list.
-ghost use Rattle.std.specs.Prelude.{◌≡◌, ◌<◌, ◌≤◌, ◌+◌, IsTrue, IfOk, IfErr, MatchOption, count_by};
+ghost use Rattle.std.specs.Prelude.{◌≡◌, ◌<◌, ◌≤◌, ◌+◌, ◌++◌, IsTrue, IfOk, IfErr, OnOk, MatchOption, count_by};
 ghost use Rattle.std.specs.List.{before_first, after_first, list_all, list_any};
 ghost use Rattle.cd_value.specs.Parts.{IsFaultOf, shown};
-ghost use Rattle.cd_value.specs.Identifier.{fields_of, has_bad_field, has_long_field, is_control, is_dash, is_identifier, is_slash, is_type_byte, read_identifier};
+ghost use Rattle.cd_value.specs.Identifier.{dashed, fields_of, has_bad_field, has_long_field, is_control, is_dash, is_identifier, is_slash, is_type_byte, name_of, read_identifier};
 
 use crate::{Memory, Text, TryCopy};
 use std::alloc::Global;
@@ -89,6 +89,29 @@ impl Identifier {
         }
         Ok(parts.own(alloc)?)
     }
+
+    /// The printed identifier, as in collectd-unixsock(5), "Identifiers": an empty instance is printed without its dash.
+    /// It is the key of the value cache, so identifiers of one name share their place there.
+    pub fn name(&self, alloc: Global) -> Result<Text, Memory>
+        ensures { IfOk result (λ name. name ≡ name_of self.now) }
+    {
+        let mut name = Text::with_capacity(alloc, self.name_capacity())?;
+        name.push(self.host.as_str())?;
+        name.push("/")?;
+        name.push(self.plugin.as_str())?;
+        push_instance(&mut name, self.plugin_instance.as_str())?;
+        name.push("/")?;
+        name.push(self.type_name.as_str())?;
+        push_instance(&mut name, self.type_instance.as_str())?;
+        Ok(name)
+    }
+
+    /// Room for the printed identifier.
+    fn name_capacity(&self) -> usize {
+        let plugin = self.plugin.len() + self.plugin_instance.len();
+        let type_part = self.type_name.len() + self.type_instance.len();
+        self.host.len() + plugin + type_part + 4
+    }
 }
 
 /// The five fields of an identifier as they stand in a text.
@@ -160,6 +183,17 @@ impl<'a> Parts<'a> {
             type_instance,
         })
     }
+}
+
+/// Puts a dash and an instance behind, and nothing for an empty instance.
+fn push_instance(name: &mut Text, instance: &str) -> Result<(), Memory>
+    ensures { OnOk result (name.new ≡ name.old ++ dashed instance.now) }
+{
+    if instance.is_empty() {
+        return Ok(());
+    }
+    name.push("-")?;
+    name.push(instance)
 }
 
 /// A text before its first slash, and what stands behind it.

@@ -2,8 +2,11 @@
 #![tactic(auto)]
 
 mod data;
+mod field;
 mod identifier;
 mod memory;
+mod print;
+mod rate;
 mod sequence;
 mod text;
 
@@ -11,8 +14,10 @@ pub use data::{
     DataSet, DataSource, DsType, FlushRequest, Notification, Offered, Rate, Severity, Value,
     ValueList,
 };
+pub use field::{clean, longest_front};
 pub use identifier::{IdFault, Identifier};
 pub use memory::{Memory, Refused, TryCopy};
+pub use print::print_millionths;
 pub use sequence::Sequence;
 pub use text::Text;
 

@@ -1,5 +1,5 @@
 // Text that contracts see as the list of its bytes.
-ghost use Rattle.std.specs.Prelude.{◌≡◌, ◌++◌, [], List, ℕ, length, IfOk, OnOk, OnErr, string_bytes, nat_eq};
+ghost use Rattle.std.specs.Prelude.{◌≡◌, ◌==◌, ◌++◌, [], List, ℕ, length, IfOk, OnOk, OnErr, string_bytes, nat_eq};
 ghost use Rattle.std.specs.Cmp.Lexicographic.{pointwise, slice_cmp};
 ghost use Rattle.std.specs.Cmp.{partial_order_from_own_ties};
 ghost use Rattle.std.specs.Cmp.Rules.{comparing, hashing};
@@ -85,6 +85,14 @@ impl Text {
         }
     }
 
+    /// The empty text, with room for a number of bytes.
+    pub fn with_capacity(alloc: Global, capacity: usize) -> Result<Self, Memory>
+        ensures { IfOk result (λ t. t ≡ []) }
+    {
+        let string = String::with_capacity(alloc, capacity)?;
+        Ok(Text { string })
+    }
+
     /// A text of its own.
     pub fn of(alloc: Global, text: &str) -> Result<Self, Memory>
         ensures { IfOk result (λ t. t ≡ text.now) }
@@ -115,6 +123,19 @@ impl Text {
     {
         self.string.push_str(text)?;
         Ok(())
+    }
+
+    /// The number of bytes.
+    pub fn len(&self) -> usize
+        ensures { result ≡ length self.now }
+    {
+        self.string.len()
+    }
+
+    pub fn is_empty(&self) -> bool
+        ensures { result ≡ (length self.now == 0) }
+    {
+        self.string.is_empty()
     }
 
     pub fn as_str(&self) -> &str

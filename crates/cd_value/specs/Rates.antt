@@ -1,0 +1,58 @@
+-- The rate of a value against the value before it: a fraction of millionths per second, or unknown.
+use Rattle.std.specs.Prelude.{ℕ, ◌+◌, ◌-◌, ◌*◌, ◌^◌, ℤ, pos, ◌-ℤ◌, ◌*ℤ◌, int_le, int_div, Bool, true, false, not, ◌&&◌, ◌==◌, if◌then◌else◌, nat_le, nat_lt, Option, Some, None}
+use Rattle.cd_value.specs.declared.data.Value.{Value}
+use Rattle.cd_value.specs.declared.data.Value.TheVariants.{Counter, Gauge, Derive, Absolute}
+use Rattle.cd_value.specs.declared.data.DataSource.{DataSource}
+use Rattle.cd_value.specs.declared.data.Rate.{Rate}
+use Rattle.cd_value.specs.declared.data.Rate.TheVariants.{Known, Unknown}
+
+-- a fraction is at least, or at most, a bound by the products of whole numbers, which have no limit; an unknown rate,
+-- as which a denominator of 0 reads, is neither
+abbrev pub at_least : Rate → ℤ → Bool
+at_least (Known num den) bound = not (den == 0) && int_le (bound *ℤ pos den) num
+at_least Unknown bound = false
+
+abbrev pub at_most : Rate → ℤ → Bool
+at_most (Known num den) bound = not (den == 0) && int_le num (bound *ℤ pos den)
+at_most Unknown bound = false
+
+-- the whole millionths of a rate, toward zero
+abbrev pub millionths : Rate → Option ℤ
+millionths (Known num den) = if den == 0 then None else Some (int_div num (pos den))
+millionths Unknown = None
+
+-- a change over dt units of 2^-30 seconds, in millionths per second
+abbrev pub per_second : ℤ → ℕ → Rate
+per_second change dt = if dt == 0 then Unknown else Known (change *ℤ pos (10 ^ 6 * 2 ^ 30)) dt
+
+-- how far a counter has come, where a smaller value means that it wrapped, at 2^32 if it was below that
+abbrev pub counter_change : ℕ → ℕ → ℕ
+counter_change old new =
+    if nat_le old new then new - old
+    else (if nat_lt old (2 ^ 32) then 2 ^ 32 - old + new else 2 ^ 64 - old + new)
+
+-- the rate before its range is looked at; only a gauge needs no earlier value
+abbrev pub rate_of_change : Option Value → Value → ℕ → Rate
+rate_of_change old (Gauge None) dt = Unknown
+rate_of_change old (Gauge (Some x)) dt = Known x 1
+rate_of_change (Some (Derive a)) (Derive b) dt = per_second (b -ℤ a) dt
+rate_of_change (Some (Counter a)) (Counter b) dt = per_second (pos (counter_change a b)) dt
+rate_of_change (Some old) (Absolute b) dt = per_second (pos b) dt
+rate_of_change _ _ dt = Unknown
+
+-- a bound that isn't given always holds
+abbrev pub reaches_min : Rate → Option ℤ → Bool
+reaches_min rate None = true
+reaches_min rate (Some min) = at_least rate min
+
+abbrev pub keeps_max : Rate → Option ℤ → Bool
+keeps_max rate None = true
+keeps_max rate (Some max) = at_most rate max
+
+-- a rate outside its source's range is unknown
+abbrev pub in_range : DataSource → Rate → Rate
+in_range source rate = if reaches_min rate source.min && keeps_max rate source.max then rate else Unknown
+
+-- the rate of a value against the one before it, which was dt units of 2^-30 seconds earlier
+abbrev pub rate_of : DataSource → Option Value → Value → ℕ → Rate
+rate_of source old new dt = in_range source (rate_of_change old new dt)

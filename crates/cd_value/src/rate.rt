@@ -1,0 +1,156 @@
+// Rates of values against the values before them.
+ghost use Rattle.std.specs.Prelude.{◌≡◌, ◌≤◌, ◌^◌, ◌≤ℤ◌, pos, negsuc, int_le, ◌*ℤ◌};
+ghost use Rattle.std.specs.Option.{option_copied};
+ghost use Rattle.cd_value.specs.Rates.{rate_of, rate_of_change};
+ghost use Rattle.cd_value.specs.Rates as rates;
+
+use crate::{DataSource, Rate, Value};
+
+/// The units of 2^-30 s in a second, times the millionths in one.
+const MILLIONTHS_PER_UNIT: i128 = 1_073_741_824_000_000;
+
+/// Where a counter of 32 bits wraps.
+const WRAP_OF_32_BITS: u64 = 1 << 32;
+
+impl Rate {
+    /// The rate of a value of a source against the value before it, which came `dt` units of 2^-30 s earlier, as in
+    /// types.db(5) and collectd.conf(5): a gauge is its own rate; of a counter and of a derive it is the change, and of
+    /// an absolute the value, by the time. Only a gauge has a rate without an earlier value.
+    pub fn of(old: Option<&Value>, new: &Value, dt: u64, source: &DataSource) -> Rate
+        ensures { result ≡ rate_of source.now (option_copied old.entry) new.now dt }
+    {
+        let rate = change(old, new, dt);
+        if rate.reaches_min(source.min) && rate.keeps_max(source.max) {
+            rate
+        } else {
+            Rate::Unknown
+        }
+    }
+
+    /// Whether the rate is known and at most `bound` millionths.
+    pub fn at_most(&self, bound: i128) -> bool
+        ensures { result ≡ rates.at_most self.now bound }
+    {
+        match self {
+            Rate::Known { num, den } => *den != 0 && is_at_most(*num, *den, bound),
+            Rate::Unknown => false,
+        }
+    }
+
+    /// Whether the rate is known and at least `bound` millionths.
+    pub fn at_least(&self, bound: i128) -> bool
+        ensures { result ≡ rates.at_least self.now bound }
+    {
+        match self {
+            Rate::Known { num, den } => *den != 0 && is_at_least(*num, *den, bound),
+            Rate::Unknown => false,
+        }
+    }
+
+    /// The whole millionths, cut toward zero, or none where the rate is unknown.
+    pub fn millionths(&self) -> Option<i128>
+        ensures { result ≡ rates.millionths self.now }
+    {
+        match self {
+            Rate::Known { num, den } => {
+                if *den == 0 {
+                    None
+                } else {
+                    Some(*num / i128::from(*den))
+                }
+            }
+            Rate::Unknown => None,
+        }
+    }
+
+    fn reaches_min(&self, min: Option<i128>) -> bool
+        ensures { result ≡ rates.reaches_min self.now min }
+    {
+        match min {
+            Some(min) => self.at_least(min),
+            None => true,
+        }
+    }
+
+    fn keeps_max(&self, max: Option<i128>) -> bool
+        ensures { result ≡ rates.keeps_max self.now max }
+    {
+        match max {
+            Some(max) => self.at_most(max),
+            None => true,
+        }
+    }
+}
+
+/// Whether a fraction is at least a bound: a product that passes 128 bits is beyond every numerator on its side.
+fn is_at_least(num: i128, den: u64, bound: i128) -> bool
+    requires { 1 ≤ den }
+    ensures { result ≡ int_le (bound *ℤ pos den) num }
+{
+    match bound.checked_mul(i128::from(den)) {
+        Some(product) => product <= num,
+        None => bound < 0,
+    }
+}
+
+fn is_at_most(num: i128, den: u64, bound: i128) -> bool
+    requires { 1 ≤ den }
+    ensures { result ≡ int_le num (bound *ℤ pos den) }
+{
+    match bound.checked_mul(i128::from(den)) {
+        Some(product) => num <= product,
+        None => bound > 0,
+    }
+}
+
+/// The rate before its range is looked at.
+fn change(old: Option<&Value>, new: &Value, dt: u64) -> Rate
+    ensures { result ≡ rate_of_change (option_copied old.entry) new.now dt }
+{
+    match new {
+        Value::Gauge(None) => Rate::Unknown,
+        Value::Gauge(Some(gauge)) => Rate::Known {
+            num: *gauge,
+            den: 1,
+        },
+        Value::Derive(to) => match old {
+            Some(Value::Derive(from)) => per_second(i128::from(*to) - i128::from(*from), dt),
+            _ => Rate::Unknown,
+        },
+        Value::Counter(to) => match old {
+            Some(Value::Counter(from)) => per_second(i128::from(counter_change(*from, *to)), dt),
+            _ => Rate::Unknown,
+        },
+        Value::Absolute(count) => match old {
+            Some(_) => per_second(i128::from(*count), dt),
+            None => Rate::Unknown,
+        },
+    }
+}
+
+/// How far a counter has come.
+fn counter_change(old: u64, new: u64) -> u64
+    ensures { result ≡ rates.counter_change old new }
+{
+    if old <= new {
+        new - old
+    } else if old < WRAP_OF_32_BITS {
+        WRAP_OF_32_BITS - old + new
+    } else {
+        u64::MAX - old + new + 1
+    }
+}
+
+fn per_second(change: i128, dt: u64) -> Rate
+    requires low { negsuc (2 ^ 64) ≤ℤ change }
+    requires high { change ≤ℤ pos (2 ^ 64) }
+    ensures { result ≡ rates.per_second change dt }
+{
+    if dt == 0 {
+        return Rate::Unknown;
+    }
+    Rate::Known {
+        num: change * MILLIONTHS_PER_UNIT,
+        den: dt,
+    }
+}
