@@ -1,6 +1,8 @@
--- Which fields make an identifier.
-use Rattle.std.specs.Prelude.{ℕ, Bool, true, false, not, ◌&&◌, ◌||◌, ◌==◌, nat_le, nat_lt, List, [], ◌∷◌, length}
-use Rattle.std.specs.List.{list_all, list_any}
+-- Which fields make an identifier, and which identifier a text is.
+use Rattle.std.specs.Prelude.{ℕ, Bool, true, false, not, ◌&&◌, ◌||◌, ◌==◌, nat_le, nat_lt, List, [], ◌∷◌, length, count_by, Result, Ok, Err, if◌then◌else◌}
+use Rattle.std.specs.List.{list_all, list_any, before_first, after_first}
+use Rattle.cd_value.specs.declared.identifier.IdFault.{IdFault}
+use Rattle.cd_value.specs.declared.identifier.IdFault.TheVariants.{BadIdentifier, FieldTooLong}
 
 -- an identifier as contracts see it: its five fields
 pub record Fields : Type 0 where
@@ -36,3 +38,44 @@ is_identifier id =
     && not (is_empty id.host) && not (is_empty id.plugin) && not (is_empty id.type_name)
     && not (list_any is_slash id.host) && not (list_any is_slash id.plugin) && not (list_any is_slash id.plugin_instance)
     && list_all is_type_byte id.type_name
+
+abbrev pub is_dash : ℕ → Bool
+is_dash byte = byte == 45
+
+-- what stands between the first and the second slash of a text
+abbrev pub plugin_part : List ℕ → List ℕ
+plugin_part text = before_first is_slash (after_first is_slash text)
+
+-- what stands after the second slash
+abbrev pub type_part : List ℕ → List ℕ
+type_part text = after_first is_slash (after_first is_slash text)
+
+-- the fields of a text: the host ends at the first slash, and an instance begins after the first dash of its part
+abbrev pub fields_of : List ℕ → Fields
+fields_of text = record {
+  host = before_first is_slash text;
+  plugin = before_first is_dash (plugin_part text);
+  plugin_instance = after_first is_dash (plugin_part text);
+  type_name = before_first is_dash (type_part text);
+  type_instance = after_first is_dash (type_part text);
+}
+
+-- the host, the plugin or the type is empty, or the type has a character that it may not have
+abbrev pub has_bad_field : Fields → Bool
+has_bad_field id = is_empty id.host || is_empty id.plugin || is_empty id.type_name || not (list_all is_type_byte id.type_name)
+
+-- a text is no identifier, whatever the lengths of its fields
+abbrev pub is_bad_text : List ℕ → Bool
+is_bad_text text = nat_lt (count_by is_slash text) 2 || list_any is_control text || has_bad_field (fields_of text)
+
+-- a field has more than 127 bytes
+abbrev pub has_long_field : Fields → Bool
+has_long_field id =
+    nat_lt 127 (length id.host) || nat_lt 127 (length id.plugin) || nat_lt 127 (length id.plugin_instance)
+    || nat_lt 127 (length id.type_name) || nat_lt 127 (length id.type_instance)
+
+-- the identifier that a text is, or why it is none
+abbrev pub read_identifier : List ℕ → Result Fields IdFault
+read_identifier text =
+    if is_bad_text text then Err BadIdentifier
+    else (if has_long_field (fields_of text) then Err FieldTooLong else Ok (fields_of text))

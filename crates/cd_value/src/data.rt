@@ -126,3 +126,24 @@ impl TryCopy for ValueList {
         })
     }
 }
+
+impl TryCopy for Notification {
+    fn copy(&self, alloc: Global) -> Result<Notification, Memory> {
+        let host = self.host.copy(alloc)?;
+        let plugin = self.plugin.copy(alloc)?;
+        let plugin_instance = self.plugin_instance.copy(alloc)?;
+        let type_name = self.type_name.copy(alloc)?;
+        let type_instance = self.type_instance.copy(alloc)?;
+        let message = self.message.copy(alloc)?;
+        Ok(Notification {
+            severity: self.severity,
+            time: self.time,
+            host,
+            plugin,
+            plugin_instance,
+            type_name,
+            type_instance,
+            message,
+        })
+    }
+}

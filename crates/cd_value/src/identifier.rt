@@ -1,9 +1,34 @@
 // The identifier of a value list.
-ghost use Rattle.std.specs.Prelude.{◌≡◌, IsTrue, IfOk};
+ghost use Rattle.std.specs.Prelude.{◌≡◌, ◌<◌, ◌≤◌, ◌+◌, IsTrue, IfOk, IfErr, MatchOption, count_by};
+ghost use Rattle.std.specs.List.{before_first, after_first, list_all, list_any};
+ghost use Rattle.cd_value.specs.Parts.{IsFaultOf, shown};
+ghost use Rattle.cd_value.specs.Identifier.{fields_of, has_bad_field, has_long_field, is_control, is_dash, is_identifier, is_slash, is_type_byte, read_identifier};
 
 use crate::{Memory, Text, TryCopy};
 use std::alloc::Global;
 use std::marker::Model;
+
+/// Why a text is no identifier.
+#[derive(Clone, Copy, Debug, PartialEq, Eq)]
+pub enum IdFault {
+    /// Fewer than two `/`, an empty host, plugin or type, a control character, or a type with a character other than a
+    /// letter, a digit or `_`.
+    BadIdentifier,
+    /// A field of more than 127 bytes.
+    FieldTooLong,
+    /// Memory was lacking.
+    Memory,
+}
+
+impl From<Memory> for IdFault {
+    ghost use Rattle.cd_value.specs.declared.identifier.IdFault.TheVariants as faults;
+
+    ghost from_gives = { λ _ e. e ≡ faults.Memory };
+
+    fn from(_: Memory) -> Self {
+        IdFault::Memory
+    }
+}
 
 /// The identifier of a value list, as in collectd-unixsock(5), "Identifiers". Its fields always make one: each has no
 /// control character and at most 127 bytes; host, plugin and type aren't empty; host, plugin and plugin instance have
@@ -43,4 +68,127 @@ impl TryCopy for Identifier {
             type_instance,
         })
     }
+}
+
+impl Identifier {
+    /// Reads `host/plugin[-instance]/type[-instance]`, as in collectd-unixsock(5), "Identifiers". The host ends at the
+    /// first `/` and the plugin part at the second; the rest is the type part, whose instance may have more `/`. In the
+    /// plugin part and in the type part an instance begins after the first `-`.
+    pub fn read(alloc: Global, text: &str) -> Result<Identifier, IdFault>
+        ensures ok { IfOk result (λ id. read_identifier text.now ≡ Ok id) }
+        ensures err { IfErr result (IsFaultOf text.now) }
+    {
+        let Some(parts) = Parts::of(text) else {
+            return Err(IdFault::BadIdentifier);
+        };
+        if has_control(text) || parts.has_bad_field() {
+            return Err(IdFault::BadIdentifier);
+        }
+        if parts.has_long_field() {
+            return Err(IdFault::FieldTooLong);
+        }
+        Ok(parts.own(alloc)?)
+    }
+}
+
+/// The five fields of an identifier as they stand in a text.
+#[derive(Clone, Copy)]
+struct Parts<'a> {
+    host: &'a str,
+    plugin: &'a str,
+    plugin_instance: &'a str,
+    type_name: &'a str,
+    type_instance: &'a str,
+}
+
+impl<'a> Parts<'a> {
+    /// The parts of a text that has two `/`.
+    fn of(text: &'a str) -> Option<Parts<'a>>
+        ensures { MatchOption result (count_by is_slash text.now < 2) (λ parts. (2 ≤ count_by is_slash text.now) × (shown parts ≡ fields_of text.now)) }
+    {
+        let Some((host, rest)) = at_slash(text) else {
+            return None;
+        };
+        let Some((plugin_part, type_part)) = at_slash(rest) else {
+            return None;
+        };
+        let (plugin, plugin_instance) = at_dash(plugin_part);
+        let (type_name, type_instance) = at_dash(type_part);
+        Some(Parts {
+            host,
+            plugin,
+            plugin_instance,
+            type_name,
+            type_instance,
+        })
+    }
+
+    fn has_bad_field(self) -> bool
+        ensures { result ≡ has_bad_field (shown self.entry) }
+    {
+        self.host.is_empty()
+            || self.plugin.is_empty()
+            || self.type_name.is_empty()
+            || !is_type(self.type_name)
+    }
+
+    fn has_long_field(self) -> bool
+        ensures { result ≡ has_long_field (shown self.entry) }
+    {
+        self.host.len() > 127
+            || self.plugin.len() > 127
+            || self.plugin_instance.len() > 127
+            || self.type_name.len() > 127
+            || self.type_instance.len() > 127
+    }
+
+    /// An identifier of its own.
+    fn own(self, alloc: Global) -> Result<Identifier, Memory>
+        requires { IsTrue (is_identifier (shown self)) }
+        ensures { IfOk result (λ id. id ≡ shown self.entry) }
+    {
+        let host = Text::of(alloc, self.host)?;
+        let plugin = Text::of(alloc, self.plugin)?;
+        let plugin_instance = Text::of(alloc, self.plugin_instance)?;
+        let type_name = Text::of(alloc, self.type_name)?;
+        let type_instance = Text::of(alloc, self.type_instance)?;
+        Ok(Identifier {
+            host,
+            plugin,
+            plugin_instance,
+            type_name,
+            type_instance,
+        })
+    }
+}
+
+/// A text before its first slash, and what stands behind it.
+fn at_slash(text: &str) -> Option<(&str, &str)>
+    ensures { MatchOption result (count_by is_slash text.now ≡ 0) (λ x. (x.0.now ≡ before_first is_slash text.now) × (x.1.now ≡ after_first is_slash text.now) × (count_by is_slash text.now ≡ 1 + count_by is_slash x.1.now)) }
+{
+    text.split_once('/')
+}
+
+/// A part before its first dash, and its instance behind it.
+fn at_dash(part: &str) -> (&str, &str)
+    ensures name { result.0.now ≡ before_first is_dash part.now }
+    ensures instance { result.1.now ≡ after_first is_dash part.now }
+{
+    match part.split_once('-') {
+        Some((name, instance)) => (name, instance),
+        None => (part, ""),
+    }
+}
+
+fn has_control(text: &str) -> bool
+    ensures { result ≡ list_any is_control text.now }
+{
+    text.bytes().any(|byte| byte < 32 || byte == 127)
+}
+
+fn is_type(text: &str) -> bool
+    ensures { result ≡ list_all is_type_byte text.now }
+{
+    text.bytes()
+        .all(|byte| byte.is_ascii_alphanumeric() || byte == b'_')
 }

@@ -11,7 +11,7 @@ pub use data::{
     DataSet, DataSource, DsType, FlushRequest, Notification, Offered, Rate, Severity, Value,
     ValueList,
 };
-pub use identifier::Identifier;
+pub use identifier::{IdFault, Identifier};
 pub use memory::{Memory, Refused, TryCopy};
 pub use sequence::Sequence;
 pub use text::Text;

@@ -1,0 +1,71 @@
+-- Who is registered.
+use Rattle.std.specs.Prelude.{ℕ, ◌==◌, Bool, true, false, ◌||◌, ◌&&◌, not, nat_eq, List, [], ◌∷◌, ◌++◌, length, map, bit_and, Option, None, Some, Ok, Err}
+use Rattle.std.specs.Cmp.Lexicographic.{pointwise}
+use Rattle.std.specs.List.{filter, find}
+use Rattle.std.specs.Option.{option_map}
+use Rattle.cd_history.specs.declared.entry.Entry.{Entry}
+use Rattle.cd_history.specs.declared.entry.Entry.TheVariants as entry
+use Rattle.cd_history.specs.declared.entry.Joining.{Joining}
+use Rattle.cd_history.specs.declared.entry.Joining.TheVariants.{Plug, Probe}
+use Rattle.cd_history.specs.History.{History, ◌▸◌}
+
+-- two texts have the same bytes
+abbrev pub is_text : List ℕ → List ℕ → Bool
+is_text = pointwise nat_eq
+
+pub record Registration : Type 0 where
+  pub number : ℕ
+  pub name : List ℕ
+  pub joining : Joining
+
+-- the registrations in order; each has the count of those before it as its number
+abbrev pub registrations : History → List Registration
+registrations [] = []
+registrations (P ▸ entry.Register a name joining (Ok n)) =
+    registrations P ++ record { number = length (registrations P); name = name; joining = joining } ∷ []
+registrations (P ▸ e) = registrations P
+
+abbrev pub is_closed : ℕ → History → Bool
+is_closed r [] = false
+is_closed r (P ▸ entry.Close a name (Some n)) = nat_eq n r || is_closed r P
+is_closed r (P ▸ e) = is_closed r P
+
+-- its object was handed out
+abbrev pub is_retired : ℕ → History → Bool
+is_retired r [] = false
+is_retired r (P ▸ entry.Retire a n (Ok _)) = nat_eq n r || is_retired r P
+is_retired r (P ▸ e) = is_retired r P
+
+-- the registrations that aren't closed, in order
+abbrev pub live : History → List Registration
+live P = filter (λ g. not (is_closed g.number P)) (registrations P)
+
+-- the kinds of callbacks, as bits
+abbrev pub WRITE : ℕ
+WRITE = 1
+
+-- one that is read has no kinds
+abbrev pub kinds_of : Joining → ℕ
+kinds_of (Plug kinds config told) = kinds.0
+kinds_of (Probe interval now told) = 0
+
+abbrev pub has_kind : ℕ → Registration → Bool
+has_kind kind g = bit_and (kinds_of g.joining) kind == kind
+
+abbrev pub is_plug : Joining → Bool
+is_plug (Plug kinds config told) = true
+is_plug (Probe interval now told) = false
+
+-- the numbers of the live registrations of a kind, in order
+abbrev pub listening : ℕ → History → List ℕ
+listening kind P = map (λ g. g.number) (filter (has_kind kind) (live P))
+
+-- the number of the live registration of that name
+abbrev pub live_number : List ℕ → History → Option ℕ
+live_number name P = option_map (λ g. g.number) (find (λ g. is_text g.name name) (live P))
+
+-- who closed r
+abbrev pub closed_by : ℕ → History → Option ℕ
+closed_by r [] = None
+closed_by r (P ▸ entry.Close a name (Some n)) = elim (nat_eq n r) [ true ↦ Some a | false ↦ closed_by r P ]
+closed_by r (P ▸ e) = closed_by r P

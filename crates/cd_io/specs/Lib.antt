@@ -1,0 +1,4 @@
+pub mod Causes
+pub mod Heard
+pub mod MemLink
+pub mod Told

@@ -1,0 +1,10 @@
+// The real outside. These objects tell nothing of content, and count their errors.
+mod chance;
+mod streams;
+mod time;
+mod world;
+
+pub use chance::RealDice;
+pub use streams::Streams;
+pub use time::RealClock;
+pub use world::RealWorld;

@@ -1,0 +1,10 @@
+// The outside in memory, for tests: it tells all that it holds.
+mod chance;
+mod link;
+mod time;
+mod world;
+
+pub use chance::MemDice;
+pub use link::{LinkPlan, MemLink};
+pub use time::MemClock;
+pub use world::MemWorld;
