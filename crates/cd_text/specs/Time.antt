@@ -1,0 +1,48 @@
+-- A time as text, in seconds, and its value in units of 2^-30 s.
+use Rattle.std.specs.Prelude.{ℕ, ◌*◌, ◌/◌, ◌^◌, ◌&&◌, List, [], ◌++◌, length, Result, Ok, Err, Option, Some, None, Bool, true, nat_le, nat_lt, if◌then◌else◌, ℤ, pos, negsuc, unwrap_or}
+use Rattle.std.specs.List.{before_first, position}
+use Rattle.std.specs.Option.{option_copied}
+use Rattle.std.specs.Str.Parse.{digits_value}
+use Rattle.cd_text.specs.Digits.{are_digits, is_dot, after_place}
+use Rattle.cd_text.specs.declared.time.Seconds.{Seconds}
+use Rattle.cd_text.specs.declared.fault.NumFault.{NumFault}
+use Rattle.cd_text.specs.declared.fault.NumFault.TheVariants.{BadNumber, OutOfRange}
+
+-- the parts of a time's text: whole seconds and, behind a dot, digits of a second
+pub record Parts : Type 0 where
+  pub whole : List ℕ
+  pub fraction : Option (List ℕ)
+
+abbrev pub parts_of : List ℕ → Parts
+parts_of t = record { whole = before_first is_dot t; fraction = after_place t (position is_dot t) }
+
+-- none, or one to nine digits
+abbrev pub is_fraction : Option (List ℕ) → Bool
+is_fraction None = true
+is_fraction (Some ds) = are_digits ds && (nat_lt 0 (length ds) && nat_le (length ds) 9)
+
+abbrev pub is_time : Parts → Bool
+is_time p = are_digits p.whole && (nat_lt 0 (length p.whole) && is_fraction p.fraction)
+
+abbrev pub further : Parts → List ℕ
+further p = unwrap_or p.fraction []
+
+-- numerator / denominator seconds in units of 2^-30 s, cut to the unit below; 2^34 seconds are out of range
+unfoldable pub units : ℕ → ℕ → Result ℕ NumFault
+units numerator denominator =
+    if nat_lt numerator (2 ^ 34 * denominator) then Ok (numerator * 2 ^ 30 / denominator) else Err OutOfRange
+
+-- what a text reads as
+unfoldable pub time_of : List ℕ → Result ℕ NumFault
+time_of t =
+    let p = parts_of t in
+    if is_time p then units (digits_value 10 (p.whole ++ further p)) (10 ^ length (further p)) else Err BadNumber
+
+-- millionths of a second in units of 2^-30 s, cut to the unit below
+abbrev pub units_of_millionths : ℤ → ℕ
+units_of_millionths (pos n) = n * 2 ^ 30 / 10 ^ 6
+units_of_millionths (negsuc n) = 0
+
+-- the parts that the code holds
+abbrev pub parts : Seconds → Parts
+parts s = record { whole = s.whole.now; fraction = option_copied s.fraction }

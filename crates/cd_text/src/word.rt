@@ -1,0 +1,43 @@
+//! Words, and why a line has none.
+ghost use Rattle.cd_text.specs.declared.word.WordFault.TheVariants as errors;
+ghost use Rattle.std.specs.Prelude.{◌≡◌};
+
+use cd_value::{Sequence, Text};
+use std::alloc::{AllocError, AllocFailed};
+
+/// A word of a line.
+#[derive(Drop)]
+pub struct Word {
+    /// The word without its quotes.
+    pub text: Text,
+    /// The byte place in the line of the word's first byte, which may be a quote.
+    pub start: u64,
+}
+
+/// Words in order.
+pub type Words = Sequence<Word>;
+
+/// Why a line has no words.
+#[derive(Clone, Copy, Debug, PartialEq, Eq)]
+pub enum WordFault {
+    /// The line ends inside quotes.
+    Unterminated,
+    /// Memory was lacking.
+    Memory,
+}
+
+impl From<AllocError> for WordFault {
+    ghost from_gives = { λ _ e. e ≡ errors.Memory };
+
+    fn from(_: AllocError) -> Self {
+        WordFault::Memory
+    }
+}
+
+impl<T: Drop> From<AllocFailed<T>> for WordFault {
+    ghost from_gives = { λ _ e. e ≡ errors.Memory };
+
+    fn from(_: AllocFailed<T>) -> Self {
+        WordFault::Memory
+    }
+}
