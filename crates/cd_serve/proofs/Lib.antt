@@ -1,3 +1,5 @@
 pub mod Steps
 pub mod Shelves
 pub mod Ends
+pub mod Gifts
+pub mod Working

