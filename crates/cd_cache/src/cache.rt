@@ -1,6 +1,6 @@
 // The cache and its calls.
-ghost use Rattle.std.specs.Prelude.{◌≡◌, [], is_some, option_copied, position, IfOk, OnOk, OnErr};
-ghost use Rattle.cd_cache.specs.Cache.{cached, is_named, outcome, updated, with_entry, without};
+ghost use Rattle.std.specs.Prelude.{◌≡◌, [], is_some, map, option_copied, position, IfOk, OnOk, OnErr};
+ghost use Rattle.cd_cache.specs.Cache.{cached, is_named, name_in, outcome, updated, with_entry, without};
 ghost use Rattle.cd_cache.specs.Rows.{rows_of};
 
 use crate::named::Named;
@@ -83,8 +83,9 @@ impl Cache {
     pub fn rows(&self, alloc: Global) -> Result<Rows, Memory>
         ensures { IfOk result (λ rows. rows ≡ rows_of self.now) }
     {
-        let _ = alloc;
-        Err(Memory)
+        let mut rows = unsorted_rows(alloc, &self.entries)?;
+        rows.sort_by(|row, other| row.1.cmp(&other.1))?;
+        Ok(Rows::from_vec(rows))
     }
 
     /// Takes a name out of the cache, and says whether it was there.
@@ -119,4 +120,15 @@ fn put(entries: &mut Vec<Named>, new: Named) -> Result<(), Memory>
         None => entries.push(new)?,
     }
     Ok(())
+}
+
+/// The time and the name of each entry.
+fn unsorted_rows(alloc: Global, entries: &[Named]) -> Result<Vec<(u64, Text)>, Memory>
+    ensures { IfOk result (λ rows. rows.items ≡ map (λ entry. (entry.list.time, name_in entry)) entries.now) }
+{
+    let mut rows = Vec::with_capacity(alloc, entries.len())?;
+    for named in entries {
+        rows.push(named.row(alloc)?)?;
+    }
+    Ok(rows)
 }
