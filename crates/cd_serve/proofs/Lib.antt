@@ -3,3 +3,4 @@ pub mod Shelves
 pub mod Ends
 pub mod Gifts
 pub mod Working
+pub mod Serving

@@ -21,10 +21,10 @@ use Rattle.cd_daemon.specs.declared.Opening.{Opening}
 use Rattle.cd_cache.specs.declared.entry.CacheEntry.{CacheEntry}
 use Rattle.cd_daemon.specs.Cached.{cache_after, stored}
 use Rattle.cd_daemon.specs.Calls.{calls_to, answered, answered_as, answered_calls}
-use Rattle.cd_daemon.specs.Answers.{accept_answer, handle_answer}
+use Rattle.cd_daemon.specs.Answers.{accept_answer, handle_answer, query_answer}
 use Rattle.cd_transcript.specs.LineRuns.{OnShelf, returned, Works, nothing, called, handled, WorksUntilIdle}
 use Rattle.cd_serve.specs.Standing.{Standing, IsWriter, registration_of, AreOf, Writes, RunsOn, called_first}
-use Rattle.cd_serve.proofs.Steps.{accepts, handles_unwritten, handles_written, works_written, after_done, calls_to-after_done, with_write, none_ready, one_queued, works_on, same_number, live-is, calls_to-unwritten}
+use Rattle.cd_serve.proofs.Steps.{accepts, asks, handles_unwritten, handles_written, works_written, after_done, calls_to-after_done, with_write, none_ready, one_queued, works_on, same_number, live-is, calls_to-unwritten}
 
 pub bytes_same : (xs : List ℕ) → bytes_eq xs xs ≡ true
 bytes_same [] = refl
@@ -134,4 +134,14 @@ run_handles_written K plug shelf queue cache P v now answer s standing writer = 
       ap (called_first (calls.Write v) answer) s.back
       ∙ ap (λ (t : PlugTells). let row : OnShelf = record plug { tells = t } in row ∷ [])
           (sym (told-written K (registration_of plug) P v queue cache now answer plug.name plug.tells standing writer refl));
+  }
+
+pub run_asks : {K : Opening} {opened shelf : List OnShelf} {writer : Bool} {cache : List CacheEntry} {P : History} (name : Option (List ℕ))
+    → RunsOn K opened shelf writer [] cache P → RunsOn K opened shelf writer [] cache (P ▸ entry.Query 0 name (query_answer K P name))
+run_asks {K = K} {opened = opened} {P = P} name s = record {
+    regs = s.regs;
+    standing = asks name s.standing;
+    of_shelf = s.of_shelf;
+    writes = s.writes;
+    back = s.back ∙ sym (returned-same P (P ▸ entry.Query 0 name (query_answer K P name)) refl (λ r. append-nil (calls_to r P)) (λ r. refl) opened);
   }

@@ -21,7 +21,7 @@ use Rattle.cd_daemon.specs.declared.Opening.{Opening}
 use Rattle.cd_cache.specs.declared.entry.CacheEntry.{CacheEntry}
 use Rattle.cd_daemon.specs.Cached.{cache_after, stored}
 use Rattle.cd_daemon.specs.Calls.{calls_to, pending, next_list, sent_to, writes_of, Post}
-use Rattle.cd_daemon.specs.Answers.{accept_answer, handle_answer, ready, is_ready, next_call, is_idle, unless_stopped}
+use Rattle.cd_daemon.specs.Answers.{accept_answer, handle_answer, query_answer, ready, is_ready, next_call, is_idle, unless_stopped}
 use Rattle.cd_daemon.specs.Legal.{IsLegal, Allowed}
 use Rattle.cd_transcript.specs.LineRuns.{Works, nothing, called, handled, WorksUntilIdle}
 use Rattle.cd_serve.specs.Standing.{Standing, IsWriter}
@@ -77,7 +77,7 @@ quiet xs = append-nil xs
 
 -- ---- lists are accepted
 
-accepted_ok : {K : Opening} {regs : List Registration} {cache : List CacheEntry} {P : History} (lists : List ValueList) → Standing K false regs [] cache P → accept_answer P lists ≡ Ok (map (λ list. Kept) lists)
+pub accepted_ok : {K : Opening} {regs : List Registration} {cache : List CacheEntry} {P : History} (lists : List ValueList) → Standing K false regs [] cache P → accept_answer P lists ≡ Ok (map (λ list. Kept) lists)
 accepted_ok lists s = rw s.is_so refl
 
 pub accepts : {K : Opening} {regs : List Registration} {cache : List CacheEntry} {P : History} (lists : List ValueList) (words : List ℕ) (now : ℕ)
@@ -234,3 +234,22 @@ module _ (K : Opening) (stopped : Bool) (g : Registration) (P : History) (v : Va
   pub works_written : {O : History} {given : List Given} → Standing K stopped (g ∷ []) (v ∷ queue) cache P → IsWriter g → Works K O given P
       → Works K O ((given ++ Now now ∷ []) ++ Answered answer ∷ []) after_done
   works_written s w so_far = called (handled so_far (none_ready s) (one_queued v queue s)) (ready_then s w) (next_then s w)
+
+-- ---- a query
+
+pub asks : {K : Opening} {stopped : Bool} {regs : List Registration} {queue : List ValueList} {cache : List CacheEntry} {P : History} (name : Option (List ℕ))
+    → Standing K stopped regs queue cache P → Standing K stopped regs queue cache (P ▸ entry.Query 0 name (query_answer K P name))
+asks {P = P} name s = record {
+    legal = (s.legal, refl);
+    is_so = s.is_so;
+    registers = s.registers;
+    unclosed = s.unclosed;
+    unretired = s.unretired;
+    home = s.home;
+    earlier = s.earlier;
+    queued = s.queued;
+    counted = s.counted;
+    taken = λ r. s.taken r ∙ ap length (sym (quiet (calls_to r P)));
+    answered = λ r. s.answered r ∙ ap length (sym (quiet (calls_to r P)));
+    caches = s.caches;
+  }

@@ -4,7 +4,15 @@ use Rattle.cd_value.specs.declared.data.DataSet.{DataSet}
 use Rattle.cd_value.specs.declared.data.ValueList.{ValueList}
 use Rattle.cd_cache.specs.declared.entry.CacheEntry.{CacheEntry}
 use Rattle.cd_sock.specs.declared.fault.LineFault.TheVariants.{LineTooLong}
+use Rattle.cd_sock.specs.declared.command.Command.{Command}
+use Rattle.cd_sock.specs.declared.command.Command.TheVariants as command
+use Rattle.cd_sock.specs.declared.reply.Reply.{Reply}
+use Rattle.cd_sock.specs.declared.reply.Reply.TheVariants as replies
 use Rattle.cd_sock.specs.Lines.{Cut}
+use Rattle.cd_cache.specs.Cache.{cached}
+use Rattle.cd_cache.specs.Rows.{rows_of}
+use Rattle.cd_value.specs.Identifier.{name_of}
+use Rattle.cd_daemon.specs.Answers.{found_in}
 use Rattle.cd_sock.specs.Meaning.{meaning}
 use Rattle.std.specs.Option.{option_map}
 use Rattle.cd_io.specs.Told.{clock_after, dice_after}
@@ -18,8 +26,8 @@ use Rattle.cd_history.specs.declared.given.Given.{Given}
 use Rattle.cd_history.specs.declared.given.Given.TheVariants.{Now, Word, Answered}
 use Rattle.cd_history.specs.History.{History}
 use Rattle.cd_daemon.specs.declared.Opening.{Opening}
-use Rattle.cd_transcript.specs.Transcripts.{Said, Written}
-use Rattle.cd_transcript.specs.LineRuns.{OnShelf, registered, Works, Serves}
+use Rattle.cd_transcript.specs.Transcripts.{Said, Written, reply_of}
+use Rattle.cd_transcript.specs.LineRuns.{OnShelf, registered, Works, Serves as ServesLines}
 use Rattle.cd_serve.specs.Standing.{RunsOn, called_first}
 use Rattle.cd_serve.specs.Tells.{Pairs, Gave, GaveAll}
 
@@ -49,7 +57,7 @@ pub record HasServed (begun : Seen) (lines : List Cut) (text : List ℕ) (seen :
   pub past : History
   pub types : seen.types ≡ begun.types
   pub runs : RunsOn (opening_of begun) begun.shelf seen.shelf seen.writer [] seen.cache past
-  pub serves : Serves (opening_of begun) (says begun.types) lines (registered begun.shelf []) seen.given past
+  pub serves : ServesLines (opening_of begun) (says begun.types) lines (registered begun.shelf []) seen.given past
   pub written : Written (says begun.types) lines past text
   pub gave : GaveAll begun.pairs seen.pairs seen.given
 
@@ -106,3 +114,20 @@ with_answer call answer seen = record seen { shelf = called_first call answer se
 -- the first plug-in was called, where there is one
 abbrev pub WasCalled : Call → Seen → Seen → Type 0
 WasCalled call old new = ((old.shelf ≡ []) × (new ≡ old)) ⊎ ((answer : Answer) × (new ≡ with_answer call answer old))
+
+-- lists were accepted, after a word for each, and handled
+pub record Puts (lists : List ValueList) (old new : Seen) : Type 0 where
+  pub mid : Seen
+  pub rolled : Rolled (length lists) old mid
+  pub works : (begun : Seen) (start : History) (before : List Given) → IsWorking begun start before lists mid → IsWorking begun start before [] new
+
+-- a command was carried out, and has this reply
+abbrev pub Obeys : Command → Reply → Seen → Seen → Type 0
+Obeys command.Blank reply old new = Unit {0}
+Obeys (command.PutVal lists) reply old new = (reply ≡ replies.Success) × Puts lists old new
+Obeys (command.GetVal id) reply old new = (new ≡ old) × (reply ≡ reply_of (found_in (opening_of old) (cached (name_of id) old.cache)))
+Obeys command.ListVal reply old new = (new ≡ old) × (reply ≡ replies.Listed (rows_of old.cache))
+
+-- a line was served, and has this reply
+abbrev pub Serves : Cut → List ℕ → Seen → Seen → Type 0
+Serves line reply old new = (begun : Seen) (lines : List Cut) (text : List ℕ) → HasServed begun lines text old → HasServed begun (lines ++ line ∷ []) (text ++ reply) new

@@ -137,3 +137,7 @@ meaning types now interval line = at_moment now interval (request_of types line)
 abbrev pub ListsFit : List DataSet → Command → Type 0
 ListsFit types (commands.PutVal lists) = IsTrue (list_all (fits types) lists)
 ListsFit types _ = Unit {0}
+
+-- a line without a fault that has only blanks
+abbrev pub is_blank_line : List ℕ → Bool
+is_blank_line line = nat_le (length line) 4096 && list_all is_blank (without_return line)

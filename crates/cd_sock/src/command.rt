@@ -1,8 +1,9 @@
 // STUB of the lead, until helper-11 pushes.
 ghost use Rattle.std.specs.Prelude.{◌≡◌, ℕ, IfErr, IfOk, OnOk};
+ghost use Rattle.std.specs.List.{list_all};
 ghost use Rattle.cd_reading.specs.Gives.{Gives, Refuses};
 ghost use Rattle.cd_sock.specs.Faults.{fault};
-ghost use Rattle.cd_sock.specs.Meaning.{meaning, ListsFit};
+ghost use Rattle.cd_sock.specs.Meaning.{meaning, ListsFit, is_blank, is_blank_line, without_return};
 use crate::{LineFault, Reply};
 use cd_types::TypesDb;
 use cd_value::{Identifier, Lists, Memory, Text};
@@ -32,5 +33,28 @@ impl Command {
         let _ = now;
         let _ = interval;
         Err(LineFault::Memory)
+    }
+
+    /// Whether a line without its newline has at most 4,096 bytes and only blanks.
+    pub fn is_blank(line: &[u8]) -> bool
+        ensures { result ≡ is_blank_line line.now }
+    {
+        line.len() <= 4096 && are_blanks(without_return(line))
+    }
+}
+
+fn are_blanks(text: &[u8]) -> bool
+    ensures { result ≡ list_all is_blank text.now }
+{
+    text.iter().all(|byte| *byte == b' ' || *byte == b'\t')
+}
+
+fn without_return(line: &[u8]) -> &[u8]
+    ensures { result.now ≡ without_return line.now }
+{
+    if !line.is_empty() && line[line.len() - 1] == b'\r' {
+        &line[..line.len() - 1]
+    } else {
+        line
     }
 }
