@@ -2,10 +2,13 @@
 //! answered.
 #![tactic(auto)]
 
+mod arguments;
 mod command;
 mod fault;
 mod lines;
+mod lists;
 mod reply;
+mod values;
 
 pub use command::Command;
 pub use fault::LineFault;
