@@ -14,6 +14,7 @@ use Rattle.cd_text.specs.declared.word.Word.{Word}
 use Rattle.cd_text.specs.Time.{time_of}
 use Rattle.cd_sock.specs.Values.{has_count, has_time, has_values, is_colon, is_now, is_whole, reading, texts_in, time_at, time_text, value_of, value_at, value_texts, values_in}
 use Rattle.cd_sock.specs.Meaning.{list_at}
+use Rattle.cd_sock.proofs.AllOrNone.{none_cond, some_cond}
 
 abbrev onto_value : Option Value → Option (List Value) → Option (List Value)
 onto_value None values = None
@@ -140,14 +141,6 @@ pub no_time : {E : Type 0} (now : ℕ) (is_moment : Bool) (read : Result ℕ E) 
 no_time {E} now true read e = cc
 no_time {E} now false (Ok x) e = cc
 no_time {E} now false (Err f) e = refl
-
-some_cond : {A : Type 0} (b : Bool) (x y : A) → cond b (Some x) None ≡ Some y → (b ≡ true) × (x ≡ y)
-some_cond {A} true x y e = (refl, cc)
-some_cond {A} false x y e = (cc, cc)
-
-none_cond : {A : Type 0} (b : Bool) (x : A) → cond b (Some x) None ≡ None → b ≡ false
-none_cond {A} true x e = cc
-none_cond {A} false x e = refl
 
 not_whole : (a b c : Bool) → (b && c) ≡ false → ((a && b) && c) ≡ false
 not_whole true b c e = e
