@@ -3,7 +3,7 @@ ghost use Rattle.std.specs.Prelude.{◌≡◌, ℕ, IfErr, IfOk, IsOk, OnOk, Res
 ghost use Rattle.std.specs.List.{list_all};
 ghost use Rattle.cd_reading.specs.Gives.{Gives, Refuses};
 ghost use Rattle.cd_sock.specs.Faults.{fault};
-ghost use Rattle.cd_sock.specs.Meaning.{ListsFit, at_moment, get_val, is_blank, list_val, meaning, put_known, put_parts, put_val, request_of_text, request_of_words, without_return};
+ghost use Rattle.cd_sock.specs.Meaning.{ListsFit, at_moment, get_val, is_blank, is_blank_line, list_val, meaning, put_known, put_parts, put_val, request_of_text, request_of_words, without_return};
 
 use crate::LineFault;
 use crate::arguments::{is_named, read_interval, split_options};
@@ -42,6 +42,14 @@ fn is_blank(text: &[u8]) -> bool
     ensures { result ≡ list_all is_blank text.now }
 {
     text.iter().all(|byte| *byte == b' ' || *byte == b'\t')
+}
+
+/// Whether a line without its newline is blank, so that it is read as `Command::Blank` at any moment: it has at most 4,096
+/// bytes, all of them spaces and tabs but for a carriage return at the end.
+pub fn is_blank_line(line: &[u8]) -> bool
+    ensures { result ≡ is_blank_line line.now }
+{
+    line.len() <= 4096 && is_blank(without_return(line))
 }
 
 /// PUTVAL with an identifier of a known type.

@@ -10,7 +10,7 @@ mod lists;
 mod reply;
 mod values;
 
-pub use command::Command;
+pub use command::{Command, is_blank_line};
 pub use fault::LineFault;
 pub use lines::{Line, LineCutter};
 pub use reply::Reply;
