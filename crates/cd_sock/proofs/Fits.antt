@@ -29,7 +29,7 @@ use Rattle.cd_sock.specs.declared.fault.LineFault.TheVariants.{LineTooLong, NotU
 use Rattle.cd_sock.specs.Values.{change_of, count_of, has_count, has_time, has_values, is_unknown, level_of, reading, Reading, value_at, value_of, value_texts}
 use Rattle.cd_sock.specs.Arguments.{from_first_plain, is_named, last_interval, leading_options}
 use Rattle.cd_sock.specs.Faults.{fault, need, of_words, with_fault}
-use Rattle.cd_sock.specs.Meaning.{Request, Blank, PutVal, GetVal, ListVal, ListsFit, at_moment, command_at, get_val, has_interval, identifier, is_blank, is_interval, list_at, list_val, meaning, put_known, put_parts, put_val, request_of, request_of_text, request_of_words, without_return}
+use Rattle.cd_sock.specs.Meaning.{Request, Blank, PutVal, GetVal, ListVal, ListsFit, at_moment, command_at, get_val, has_interval, identifier, is_blank, is_blank_line, is_interval, list_at, list_val, meaning, put_known, put_parts, put_val, request_of, request_of_text, request_of_words, without_return}
 use Rattle.cd_text.specs.Quoting.{words_of}
 use Rattle.std.specs.Str.{is_utf8}
 use Rattle.std.specs.Prelude.{codes, unwrap_or}
@@ -106,6 +106,7 @@ values_fit (source ∷ sources) (text ∷ texts) same given =
   where
     rest : List Value
     rest = filter_map value_at (zip sources texts)
+
     by : (o : Option Value) → IsOfKind source.kind o → is_some o ≡ true → (length rest ≡ length sources) × (list_all (λ pair. fits_source pair.0 pair.1) (zip sources rest) ≡ true)
         → (length (cons_option o rest) ≡ suc (length sources)) × (list_all (λ pair. fits_source pair.0 pair.1) (zip (source ∷ sources) (cons_option o rest)) ≡ true)
     by None kind some more = (cc, cc)
@@ -142,11 +143,12 @@ lists_fit_all types id set (word ∷ words) now interval named count given =
 
 -- ---- a line
 
--- what a line asks for has values that fit a known type
-abbrev Stands : List DataSet → Request → Type 0
-Stands types (PutVal id own readings) =
+-- what a line asks for has values that fit a known type, and is nothing only where B holds
+abbrev pub Stands : List DataSet → Type 0 → Request → Type 0
+Stands types B Blank = B
+Stands types B (PutVal id own readings) =
     (set : DataSet) × (words : List Word) × (set_named id.type_name types ≡ Some set) × (readings ≡ map (reading set.sources) words) × (list_all (has_count set.sources) words ≡ true) × (list_all (has_values set.sources) words ≡ true)
-Stands types _ = Unit {0}
+Stands types B _ = Unit {0}
 
 then_stands : {A F : Type 0} (P : Request → Type 0) (read : Result A F) (next : A → Result Request F) → IfOk read (λ x. IfOk (next x) P) → IfOk (read >>= next) P
 then_stands {A} {F} P (Ok x) next h = h
@@ -164,94 +166,95 @@ unless_stands P true true false v request h = tt
 unless_stands P true false n v request h = tt
 unless_stands P false b n v request h = tt
 
-put_known_stands : (types : List DataSet) (id : Fields) (set : DataSet) (options values : List Word) → set_named id.type_name types ≡ Some set → IfOk (put_known id set.sources options values) (Stands types)
+put_known_stands : (types : List DataSet) (B : Type 0) (id : Fields) (set : DataSet) (options values : List Word) → set_named id.type_name types ≡ Some set → IfOk (put_known id set.sources options values) (Stands types B)
 unfolding put_known
-put_known_stands types id set options values named =
-    unless_stands (Stands types) (list_all is_interval options) (list_all has_interval options && list_all has_time values) (list_all (has_count set.sources) values) (list_all (has_values set.sources) values)
+put_known_stands types B id set options values named =
+    unless_stands (Stands types B) (list_all is_interval options) (list_all has_interval options && list_all has_time values) (list_all (has_count set.sources) values) (list_all (has_values set.sources) values)
     (PutVal id (last_interval options) (map (reading set.sources) values)) (λ count given. (set, values, named, refl, count, given))
 
 need_is : {A : Type 0} (f : LineFault) (o : Option A) (x : A) → need f o ≡ Ok x → o ≡ Some x
 need_is {A} f None x e = cc
 need_is {A} f (Some y) x e = cc
 
-put_parts_stands : (types : List DataSet) (name : List ℕ) (options values : List Word) → IfOk (put_parts types name options values) (Stands types)
+put_parts_stands : (types : List DataSet) (B : Type 0) (name : List ℕ) (options values : List Word) → IfOk (put_parts types name options values) (Stands types B)
 unfolding put_parts
-put_parts_stands types name options [] = tt
-put_parts_stands types name options (value ∷ values) =
-    then_stands (Stands types) (identifier name) _
-    (each _ (identifier name) (λ id e. then_stands (Stands types) (need UnknownType (set_named id.type_name types)) _
-    (each _ (need UnknownType (set_named id.type_name types)) (λ set named. put_known_stands types id set options (value ∷ values) (need_is UnknownType (set_named id.type_name types) set named)))))
+put_parts_stands types B name options [] = tt
+put_parts_stands types B name options (value ∷ values) =
+    then_stands (Stands types B) (identifier name) _
+    (each _ (identifier name) (λ id e. then_stands (Stands types B) (need UnknownType (set_named id.type_name types)) _
+    (each _ (need UnknownType (set_named id.type_name types)) (λ set named. put_known_stands types B id set options (value ∷ values) (need_is UnknownType (set_named id.type_name types) set named)))))
 
-put_val_stands : (types : List DataSet) (words : List Word) → IfOk (put_val types words) (Stands types)
+put_val_stands : (types : List DataSet) (B : Type 0) (words : List Word) → IfOk (put_val types words) (Stands types B)
 unfolding put_val
-put_val_stands types [] = tt
-put_val_stands types (name ∷ more) = put_parts_stands types name.text (leading_options more) (from_first_plain more)
+put_val_stands types B [] = tt
+put_val_stands types B (name ∷ more) = put_parts_stands types B name.text (leading_options more) (from_first_plain more)
 
-get_val_stands : (types : List DataSet) (words : List Word) → IfOk (get_val words) (Stands types)
+get_val_stands : (types : List DataSet) (B : Type 0) (words : List Word) → IfOk (get_val words) (Stands types B)
 unfolding get_val
-get_val_stands types [] = tt
-get_val_stands types (name ∷ more) = then_stands (Stands types) (identifier name.text) _ (each _ (identifier name.text) (λ id e. by (length more == 0) id))
+get_val_stands types B [] = tt
+get_val_stands types B (name ∷ more) = then_stands (Stands types B) (identifier name.text) _ (each _ (identifier name.text) (λ id e. by (length more == 0) id))
   where
-    by : (b : Bool) (id : Fields) → IfOk (unless ((b, BadOption) ∷ []) (GetVal id)) (Stands types)
+    by : (b : Bool) (id : Fields) → IfOk (unless ((b, BadOption) ∷ []) (GetVal id)) (Stands types B)
     by true id = tt
     by false id = tt
 
-list_val_stands : (types : List DataSet) (words : List Word) → IfOk (list_val words) (Stands types)
+list_val_stands : (types : List DataSet) (B : Type 0) (words : List Word) → IfOk (list_val words) (Stands types B)
 unfolding list_val
-list_val_stands types words = by (length words == 0)
+list_val_stands types B words = by (length words == 0)
   where
-    by : (b : Bool) → IfOk (unless ((b, BadOption) ∷ []) ListVal) (Stands types)
+    by : (b : Bool) → IfOk (unless ((b, BadOption) ∷ []) ListVal) (Stands types B)
     by true = tt
     by false = tt
 
-words_stand : (types : List DataSet) (words : List Word) → IfOk (request_of_words types words) (Stands types)
+words_stand : (types : List DataSet) (B : Type 0) (words : List Word) → IfOk (request_of_words types words) (Stands types B)
 unfolding request_of_words
-words_stand types [] = tt
-words_stand types (name ∷ more) = by (is_named (codes "PUTVAL") name.text) (is_named (codes "GETVAL") name.text) (is_named (codes "LISTVAL") name.text)
+words_stand types B [] = tt
+words_stand types B (name ∷ more) = by (is_named (codes "PUTVAL") name.text) (is_named (codes "GETVAL") name.text) (is_named (codes "LISTVAL") name.text)
   where
-    by : (p g l : Bool) → IfOk (cond p (put_val types more) (cond g (get_val more) (cond l (list_val more) (Err UnknownCommand)))) (Stands types)
-    by true g l = put_val_stands types more
-    by false true l = get_val_stands types more
-    by false false true = list_val_stands types more
+    by : (p g l : Bool) → IfOk (cond p (put_val types more) (cond g (get_val more) (cond l (list_val more) (Err UnknownCommand)))) (Stands types B)
+    by true g l = put_val_stands types B more
+    by false true l = get_val_stands types B more
+    by false false true = list_val_stands types B more
     by false false false = tt
 
-text_stands : (types : List DataSet) (text : List ℕ) → IfOk (request_of_text types text) (Stands types)
+text_stands : (types : List DataSet) (B : Type 0) (text : List ℕ) → (list_all is_blank text ≡ true → B) → IfOk (request_of_text types text) (Stands types B)
 unfolding request_of_text
-text_stands types text = by (list_all is_blank text) (is_utf8 text)
+text_stands types B text blank = by (list_all is_blank text) refl (is_utf8 text)
   where
-    by : (b u : Bool) → IfOk (cond b (Ok Blank) (unless ((u, NotUtf8) ∷ []) text >>= λ text. with_fault of_words (words_of text) >>= λ words. request_of_words types words)) (Stands types)
-    by true u = tt
-    by false true = then_stands (Stands types) (with_fault of_words (words_of text)) _ (each _ (with_fault of_words (words_of text)) (λ words e. words_stand types words))
-    by false false = tt
+    by : (b : Bool) → list_all is_blank text ≡ b → (u : Bool) → IfOk (cond b (Ok Blank) (unless ((u, NotUtf8) ∷ []) text >>= λ text. with_fault of_words (words_of text) >>= λ words. request_of_words types words)) (Stands types B)
+    by true is u = blank is
+    by false is true = then_stands (Stands types B) (with_fault of_words (words_of text)) _ (each _ (with_fault of_words (words_of text)) (λ words e. words_stand types B words))
+    by false is false = tt
 
-line_stands : (types : List DataSet) (line : List ℕ) → IfOk (request_of types line) (Stands types)
+pub line_stands : (types : List DataSet) (line : List ℕ) → IfOk (request_of types line) (Stands types (is_blank_line line ≡ true))
 unfolding request_of
-line_stands types line = by (nat_le (length line) 4096)
+line_stands types line = by (nat_le (length line) 4096) refl
   where
-    by : (b : Bool) → IfOk (unless ((b, LineTooLong) ∷ []) line >>= λ line. request_of_text types (without_return line)) (Stands types)
-    by true = text_stands types (without_return line)
-    by false = tt
+    by : (b : Bool) → nat_le (length line) 4096 ≡ b
+        → IfOk (unless ((b, LineTooLong) ∷ []) line >>= λ line. request_of_text types (without_return line)) (Stands types (is_blank_line line ≡ true))
+    by true short = text_stands types (is_blank_line line ≡ true) (without_return line) (λ blank. and_from (nat_le (length line) 4096) (list_all is_blank (without_return line)) short blank)
+    by false long = tt
 
-request_fits : (types : List DataSet) (now interval : ℕ) (request : Request) → Stands types request → ListsFit types (command_at now interval request)
-request_fits types now interval Blank h = tt
-request_fits types now interval (GetVal id) h = tt
-request_fits types now interval ListVal h = tt
-request_fits types now interval (PutVal id own readings) h =
+request_fits : (types : List DataSet) (B : Type 0) (now interval : ℕ) (request : Request) → Stands types B request → ListsFit types (command_at now interval request)
+request_fits types B now interval Blank h = tt
+request_fits types B now interval (GetVal id) h = tt
+request_fits types B now interval ListVal h = tt
+request_fits types B now interval (PutVal id own readings) h =
     ap (λ (rs : List Reading). list_all (fits types) (map (list_at now (unwrap_or own interval) id) rs)) h.3
     ∙ lists_fit_all types id h.0 h.1 now (unwrap_or own interval) h.2 h.4 h.5
 
-command_fits : (types : List DataSet) (now interval : ℕ) (read : Result Request LineFault) (command : Command) → IfOk read (Stands types) → at_moment now interval read ≡ Ok command → ListsFit types command
-command_fits types now interval (Ok request) command stands e =
+command_fits : (types : List DataSet) (B : Type 0) (now interval : ℕ) (read : Result Request LineFault) (command : Command) → IfOk read (Stands types B) → at_moment now interval read ≡ Ok command → ListsFit types command
+command_fits types B now interval (Ok request) command stands e =
     let same : command_at now interval request ≡ command = cc in
-    subst (λ (c : Command). ListsFit types c) same (request_fits types now interval request stands)
-command_fits types now interval (Err f) command stands e = absurd cc
+    subst (λ (c : Command). ListsFit types c) same (request_fits types B now interval request stands)
+command_fits types B now interval (Err f) command stands e = absurd cc
 
 -- the lists of a line's command fit the types, whenever it is read
 pub lists_fit : (types : List DataSet) (now interval : ℕ) (line : List ℕ) (command : Command) → meaning types now interval line ≡ Ok command → ListsFit types command
-lists_fit types now interval line command e = command_fits types now interval (request_of types line) command (line_stands types line) e
+lists_fit types now interval line command e = command_fits types (is_blank_line line ≡ true) now interval (request_of types line) command (line_stands types line) e
 
 -- the same of what a text was read as
 pub read_fits : (types : List DataSet) (now interval : ℕ) (text : List ℕ) (result : Result Command LineFault) → Gives (λ command. command) fault result (at_moment now interval (request_of_text types text))
     → IfOk result (λ command. ListsFit types command)
-read_fits types now interval text (Ok command) given = command_fits types now interval (request_of_text types text) command (text_stands types text) given
+read_fits types now interval text (Ok command) given = command_fits types (Unit {0}) now interval (request_of_text types text) command (text_stands types (Unit {0}) text (λ e. tt)) given
 read_fits types now interval text (Err f) given = tt

@@ -1,6 +1,6 @@
 -- Laws of the meaning of a line.
 use Rattle.std.proofs.Common.{◌≡◌, ℕ, Bool, true, false, ◌&&◌, cond, List, [], ◌∷◌, map, length, Option, Some, None, Result, Ok, Err, refl, sym, ap, ◌∙◌, arith}
-use Rattle.std.specs.Prelude.{nat_lt, nat_le, unwrap_or}
+use Rattle.std.specs.Prelude.{IfOk, nat_lt, nat_le, unwrap_or}
 use Rattle.std.specs.List.{list_all}
 use Rattle.std.proofs.lemmas.List.{length-map}
 use Rattle.std.proofs.lemmas.Bool.{and_parts, lt-leb, ltb-true}
@@ -13,6 +13,7 @@ use Rattle.cd_sock.specs.declared.command.Command.TheVariants as commands
 use Rattle.cd_sock.specs.declared.fault.LineFault.{LineFault}
 use Rattle.cd_sock.specs.declared.fault.LineFault.TheVariants.{LineTooLong}
 use Rattle.cd_sock.specs.Lines.{cut}
+use Rattle.cd_sock.proofs.Fits.{Stands, line_stands}
 use Rattle.cd_sock.specs.Meaning.{Request, Blank, PutVal, GetVal, ListVal, at_moment, is_blank, is_blank_line, list_at, meaning, request_of, request_of_text, without_return}
 
 -- a line that is cut as too long is refused as such
@@ -23,7 +24,7 @@ too_long types now interval line e = by (nat_lt 4096 (length line)) refl e
     by : (t : Bool) → nat_lt 4096 (length line) ≡ t → cond t None (Some line) ≡ None → meaning types now interval line ≡ Err LineTooLong
     by true h e =
         ap (λ (b : Bool). at_moment now interval (unless ((b, LineTooLong) ∷ []) line >>= λ line. request_of_text types (without_return line)))
-        (lt-leb 4096 (length line) (ltb-true 4096 (length line) h))
+        (lt-leb (length line) 4096 (ltb-true 4096 (length line) h))
     by false h e = cc
 
 -- ---- the moment and the global interval change only times and intervals
@@ -78,9 +79,11 @@ module _ (types : List DataSet) (now interval later other : ℕ) (line : List �
           → (more : List ValueList) × (at_moment later other read ≡ Ok (commands.PutVal more)) × (length more ≡ length lists)
       by (Ok Blank) e = absurd cc
       by (Ok (PutVal id own readings)) e =
-          let same : map (list_at now (unwrap_or own interval) id) readings ≡ lists = cc in
-          (map (list_at later (unwrap_or own other) id) readings, refl,
-          length-map readings (list_at later (unwrap_or own other) id) ∙ sym (length-map readings (list_at now (unwrap_or own interval) id)) ∙ ap length same)
+          let same : map (list_at now (unwrap_or own interval) id) readings ≡ lists = cc in (
+            map (list_at later (unwrap_or own other) id) readings,
+            refl,
+            length-map readings (list_at later (unwrap_or own other) id) ∙ sym (length-map readings (list_at now (unwrap_or own interval) id)) ∙ ap length same,
+          )
       by (Ok (GetVal id)) e = absurd cc
       by (Ok ListVal) e = absurd cc
       by (Err g) e = absurd cc
@@ -95,6 +98,12 @@ blank_line types now interval line e =
     let blank : list_all is_blank (without_return line) ≡ true = parts.1 in
     rw (short, blank) refl
 
-no_text_is_blank : (types : List DataSet) (now interval : ℕ) (text : List ℕ) → at_moment now interval (request_of_text types text) ≡ Ok commands.Blank → list_all is_blank text ≡ true
-unfolding request_of_text
-no_text_is_blank types now interval text e = ?
+pub blank_only : (types : List DataSet) (now interval : ℕ) (line : List ℕ) → meaning types now interval line ≡ Ok commands.Blank → is_blank_line line ≡ true
+blank_only types now interval line e = by (request_of types line) (line_stands types line) e
+  where
+    by : (read : Result Request LineFault) → IfOk read (Stands types (is_blank_line line ≡ true)) → at_moment now interval read ≡ Ok commands.Blank → is_blank_line line ≡ true
+    by (Ok Blank) stands e = stands
+    by (Ok (PutVal id own readings)) stands e = cc
+    by (Ok (GetVal id)) stands e = cc
+    by (Ok ListVal) stands e = cc
+    by (Err f) stands e = cc

@@ -85,7 +85,7 @@ put_lists id sources options values now global own e =
     let request : Request = PutVal id (last_interval options) (map (reading sources) values) in
     let same : command_at now global request ≡ commands.PutVal lists
     = ap (λ (ls : List ValueList). commands.PutVal ls) (map-map (list_at now (unwrap_or (last_interval options) global) id) (reading sources) values)
-      ∙ ap (λ (t : ℕ). commands.PutVal (map (λ word. list_at now t id (reading sources word)) values)) good.2 in
+    ∙ ap (λ (t : ℕ). commands.PutVal (map (λ word. list_at now t id (reading sources word)) values)) good.2 in
     ap (λ (a : Bool). at_moment now global (unless ((a, BadOption) ∷ (list_all has_interval options && list_all has_time values, BadTime) ∷ (list_all (has_count sources) values, WrongNumberOfValues) ∷ (list_all (has_values sources) values, BadValue) ∷ []) request)) good.0
     ∙ ap (λ (b : Bool). at_moment now global (unless ((true, BadOption) ∷ (b && list_all has_time values, BadTime) ∷ (list_all (has_count sources) values, WrongNumberOfValues) ∷ (list_all (has_values sources) values, BadValue) ∷ []) request)) good.1
     ∙ put_cases (list_all has_time values) (list_all (has_count sources) values) (list_all (has_values sources) values) request lists now global same

@@ -19,9 +19,10 @@ own = numerals_by_value _ (search rules)
 
 -- a numeral below a bound
 below : (ds : List ℕ) (t : Bool) (P : Type 0) → (t ≡ true → P) → (P → t ≡ true) → (((is_numeral ds && t) ≡ true → (are_digits ds ≡ true) × (0 < length ds) × P) × ((are_digits ds ≡ true) × (0 < length ds) × P → (is_numeral ds && t) ≡ true))
-below ds t P to from =
-    (λ h. let both = and_parts (is_numeral ds) t h in let numeral = and_parts (nat_lt 0 (length ds)) (are_digits ds) both.0 in (numeral.1, ltb-true 0 (length ds) numeral.0, to both.1),
-     λ h. and_from (is_numeral ds) t (and_from (nat_lt 0 (length ds)) (are_digits ds) (lt-ltb 0 (length ds) h.1) h.0) (from h.2))
+below ds t P to from = (
+  λ h. let both = and_parts (is_numeral ds) t h in let numeral = and_parts (nat_lt 0 (length ds)) (are_digits ds) both.0 in (numeral.1, ltb-true 0 (length ds) numeral.0, to both.1),
+  λ h. and_from (is_numeral ds) t (and_from (nat_lt 0 (length ds)) (are_digits ds) (lt-ltb 0 (length ds) h.1) h.0) (from h.2),
+)
 
 pub count_parsed : {E : Type 0} (bs : List ℕ) (r : Result ℕ E) → ParsesUnsigned 64 10 bs r → (slice_index bs 0 == 43) ≡ false → result_ok r ≡ count_of bs
 count_parsed {E} bs r h plain =
@@ -41,8 +42,10 @@ change_parsed {E} bs r h = by_minus (slice_index bs 0 == 45) refl
   where
     below_63 : (ds : List ℕ) → (((is_numeral ds && nat_lt (digits_value 10 ds) (2 ^ 63)) ≡ true → (are_digits ds ≡ true) × (0 < length ds) × (digits_value 10 ds < 2 ^ 63)) × ((are_digits ds ≡ true) × (0 < length ds) × (digits_value 10 ds < 2 ^ 63) → (is_numeral ds && nat_lt (digits_value 10 ds) (2 ^ 63)) ≡ true))
     below_63 ds = below ds (nat_lt (digits_value 10 ds) (2 ^ 63)) (digits_value 10 ds < 2 ^ 63) (ltb-true (digits_value 10 ds) (2 ^ 63)) (lt-ltb (digits_value 10 ds) (2 ^ 63))
+
     up_to_63 : (ds : List ℕ) → (((is_numeral ds && nat_le (digits_value 10 ds) (2 ^ 63)) ≡ true → (are_digits ds ≡ true) × (0 < length ds) × (digits_value 10 ds ≤ 2 ^ 63)) × ((are_digits ds ≡ true) × (0 < length ds) × (digits_value 10 ds ≤ 2 ^ 63) → (is_numeral ds && nat_le (digits_value 10 ds) (2 ^ 63)) ≡ true))
     up_to_63 ds = below ds (nat_le (digits_value 10 ds) (2 ^ 63)) (digits_value 10 ds ≤ 2 ^ 63) (leb-true (digits_value 10 ds) (2 ^ 63)) (le-leb (digits_value 10 ds) (2 ^ 63))
+
     by_plus : (t : Bool) → (slice_index bs 0 == 43) ≡ t → (slice_index bs 0 == 45) ≡ false → result_ok r ≡ change_of bs
     by_plus true e m =
         let b = below_63 (drop 1 bs) in
@@ -50,6 +53,7 @@ change_parsed {E} bs r h = by_minus (slice_index bs 0 == 45) refl
     by_plus false e m =
         let b = below_63 bs in
         by_test r _ _ _ (parse_signed_plain own w64 bs r h (eqb-false (get_or bs 0 0) 43 e) (eqb-false (get_or bs 0 0) 45 m)) b.0 b.1 ∙ at_sign bs bs false m (rw (m, e) refl)
+
     by_minus : (t : Bool) → (slice_index bs 0 == 45) ≡ t → result_ok r ≡ change_of bs
     by_minus true m =
         let b = up_to_63 (drop 1 bs) in

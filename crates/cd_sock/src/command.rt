@@ -54,7 +54,15 @@ pub fn is_blank_line(line: &[u8]) -> bool
 
 /// PUTVAL with an identifier of a known type.
 #[tactic(auto, unfolding(crate::specs::Meaning::put_known))]
-fn put_known(alloc: Global, id: Identifier, sources: &[DataSource], options: &[Word], values: &[Word], now: u64, interval: u64) -> Result<Command, LineFault>
+fn put_known(
+    alloc: Global,
+    id: Identifier,
+    sources: &[DataSource],
+    options: &[Word],
+    values: &[Word],
+    now: u64,
+    interval: u64,
+) -> Result<Command, LineFault>
     ensures { Gives (λ command. command) fault result (at_moment now interval (put_known id sources.now options.now values.now)) }
 {
     let interval = read_interval(options, interval)?;
@@ -64,7 +72,15 @@ fn put_known(alloc: Global, id: Identifier, sources: &[DataSource], options: &[W
 
 /// PUTVAL with its arguments told apart.
 #[tactic(auto, unfolding(crate::specs::Meaning::put_parts))]
-fn put_parts(alloc: Global, types: &TypesDb, name: &str, options: &[Word], values: &[Word], now: u64, interval: u64) -> Result<Command, LineFault>
+fn put_parts(
+    alloc: Global,
+    types: &TypesDb,
+    name: &str,
+    options: &[Word],
+    values: &[Word],
+    now: u64,
+    interval: u64,
+) -> Result<Command, LineFault>
     ensures { Gives (λ command. command) fault result (at_moment now interval (put_parts types.now name.now options.now values.now)) }
 {
     if values.is_empty() {
@@ -74,18 +90,40 @@ fn put_parts(alloc: Global, types: &TypesDb, name: &str, options: &[Word], value
     let Some(set) = types.get(id.type_name.as_str()) else {
         return Err(LineFault::UnknownType);
     };
-    put_known(alloc, id, set.sources.as_slice(), options, values, now, interval)
+    put_known(
+        alloc,
+        id,
+        set.sources.as_slice(),
+        options,
+        values,
+        now,
+        interval,
+    )
 }
 
 #[tactic(auto, unfolding(crate::specs::Meaning::put_val))]
-fn put_val(alloc: Global, types: &TypesDb, arguments: &[Word], now: u64, interval: u64) -> Result<Command, LineFault>
+fn put_val(
+    alloc: Global,
+    types: &TypesDb,
+    arguments: &[Word],
+    now: u64,
+    interval: u64,
+) -> Result<Command, LineFault>
     ensures { Gives (λ command. command) fault result (at_moment now interval (put_val types.now arguments.now)) }
 {
     let Some((name, more)) = arguments.split_first() else {
         return Err(LineFault::MissingArgument);
     };
     let (options, values) = split_options(more);
-    put_parts(alloc, types, name.text.as_str(), options, values, now, interval)
+    put_parts(
+        alloc,
+        types,
+        name.text.as_str(),
+        options,
+        values,
+        now,
+        interval,
+    )
 }
 
 #[tactic(auto, unfolding(crate::specs::Meaning::get_val))]
@@ -115,7 +153,13 @@ fn list_val(arguments: &[Word]) -> Result<Command, LineFault>
 
 /// The command that the first word names.
 #[tactic(auto, unfolding(crate::specs::Meaning::request_of_words))]
-fn read_words(alloc: Global, types: &TypesDb, words: &[Word], now: u64, interval: u64) -> Result<Command, LineFault>
+fn read_words(
+    alloc: Global,
+    types: &TypesDb,
+    words: &[Word],
+    now: u64,
+    interval: u64,
+) -> Result<Command, LineFault>
     ensures { Gives (λ command. command) fault result (at_moment now interval (request_of_words types.now words.now)) }
 {
     let Some((name, arguments)) = words.split_first() else {
@@ -135,7 +179,13 @@ fn read_words(alloc: Global, types: &TypesDb, words: &[Word], now: u64, interval
 
 /// The command of a line without its carriage return.
 #[tactic(auto, unfolding(crate::specs::Meaning::request_of_text))]
-fn read_text(alloc: Global, types: &TypesDb, text: &[u8], now: u64, interval: u64) -> Result<Command, LineFault>
+fn read_text(
+    alloc: Global,
+    types: &TypesDb,
+    text: &[u8],
+    now: u64,
+    interval: u64,
+) -> Result<Command, LineFault>
     ensures { Gives (λ command. command) fault result (at_moment now interval (request_of_text types.now text.now)) }
 {
     if is_blank(text) {
@@ -155,7 +205,13 @@ impl Command {
     /// Of several faults the first in the order of `LineFault` is given. Whether a line is refused, and why, depends on
     /// neither the moment nor the global interval.
     #[tactic(auto, unfolding(crate::specs::Meaning::request_of))]
-    pub fn read(alloc: Global, line: &[u8], types: &TypesDb, now: u64, interval: u64) -> Result<Command, LineFault>
+    pub fn read(
+        alloc: Global,
+        line: &[u8],
+        types: &TypesDb,
+        now: u64,
+        interval: u64,
+    ) -> Result<Command, LineFault>
         ensures meaning { Gives (λ command. command) fault result (meaning types.now now interval line.now) }
         ensures same_fault { IfErr result (λ e. (later other : ℕ) → Refuses (fault e) (meaning types.now later other line.now)) }
         ensures no_fault { OnOk result ((later other : ℕ) → IsOk (meaning types.now later other line.now)) }

@@ -13,7 +13,14 @@ use cd_value::{DataSource, Identifier, Lists, Memory, Sequence, TryCopy, ValueLi
 use std::alloc::Global;
 
 /// The lists of all but the last value word, with room for one more; none where a word has a fault.
-fn earlier_lists(alloc: Global, sources: &[DataSource], words: &[Word], id: &Identifier, now: u64, interval: u64) -> Result<Option<Vec<ValueList>>, Memory>
+fn earlier_lists(
+    alloc: Global,
+    sources: &[DataSource],
+    words: &[Word],
+    id: &Identifier,
+    now: u64,
+    interval: u64,
+) -> Result<Option<Vec<ValueList>>, Memory>
     ensures { IfOk result (λ lists. option_map (λ v. v.items) lists ≡ lists_of sources.now id.now now interval words.now) }
 {
     let mut lists = Vec::with_capacity(alloc, words.len() + 1)?;
@@ -29,7 +36,14 @@ fn earlier_lists(alloc: Global, sources: &[DataSource], words: &[Word], id: &Ide
 
 /// The lists of one value word or more; none where a word has a fault. The last list takes the identifier, and each
 /// other one a copy.
-fn try_lists(alloc: Global, sources: &[DataSource], words: &[Word], id: Identifier, now: u64, interval: u64) -> Result<Option<Lists>, Memory>
+fn try_lists(
+    alloc: Global,
+    sources: &[DataSource],
+    words: &[Word],
+    id: Identifier,
+    now: u64,
+    interval: u64,
+) -> Result<Option<Lists>, Memory>
     ensures { IfOk result (λ lists. lists ≡ lists_of sources.now id now interval words.now) }
 {
     let Some((last, earlier)) = words.split_last() else {
@@ -71,7 +85,14 @@ fn value_fault(sources: &[DataSource], words: &[Word]) -> LineFault
 }
 
 /// The lists of one value word or more, or their first fault.
-pub fn read_lists(alloc: Global, sources: &[DataSource], words: &[Word], id: Identifier, now: u64, interval: u64) -> Result<Lists, LineFault>
+pub fn read_lists(
+    alloc: Global,
+    sources: &[DataSource],
+    words: &[Word],
+    id: Identifier,
+    now: u64,
+    interval: u64,
+) -> Result<Lists, LineFault>
     ensures { Gives (λ lists. lists) fault result (lists_or_fault sources.now id now interval words.now) }
 {
     match try_lists(alloc, sources, words, id, now, interval)? {

@@ -87,7 +87,11 @@ fn read_moment(text: &str, now: u64) -> Option<u64>
 
 /// The values of the texts between the colons of the rest of a word, one for each source; none where their number differs
 /// or one isn't of its source's kind.
-fn read_values(alloc: Global, sources: &[DataSource], rest: Option<&str>) -> Result<Option<Values>, Memory>
+fn read_values(
+    alloc: Global,
+    sources: &[DataSource],
+    rest: Option<&str>,
+) -> Result<Option<Values>, Memory>
     ensures { IfOk result (λ values. values ≡ values_in sources.now (texts_in (option_copied rest.entry))) }
 {
     let mut values = Vec::with_capacity(alloc, sources.len())?;
@@ -110,7 +114,14 @@ fn read_values(alloc: Global, sources: &[DataSource], rest: Option<&str>) -> Res
 }
 
 /// The list of a value word; none where the word has a fault.
-pub fn read_list(alloc: Global, sources: &[DataSource], word: &Word, id: Identifier, now: u64, interval: u64) -> Result<Option<ValueList>, Memory>
+pub fn read_list(
+    alloc: Global,
+    sources: &[DataSource],
+    word: &Word,
+    id: Identifier,
+    now: u64,
+    interval: u64,
+) -> Result<Option<ValueList>, Memory>
     ensures { IfOk result (λ list. list ≡ (if is_whole sources.now word.now then Some (list_at now interval id (reading sources.now word.now)) else None)) }
 {
     let (time, rest) = at_colon(word.text.as_str());
@@ -120,7 +131,12 @@ pub fn read_list(alloc: Global, sources: &[DataSource], word: &Word, id: Identif
     let Some(values) = read_values(alloc, sources, rest)? else {
         return Ok(None);
     };
-    Ok(Some(ValueList { id, time, interval, values }))
+    Ok(Some(ValueList {
+        id,
+        time,
+        interval,
+        values,
+    }))
 }
 
 /// Whether the time of a value word is one.

@@ -27,6 +27,6 @@ pub returns : goal.returns
 returns c =
     let total : at_moment c.args.now c.args.interval (request_of_words c.args.types.now c.as_slice.result.now) ≡ at_moment c.args.now c.args.interval (request_of_text c.args.types.now c.args.text.now)
     = ap (λ (words : List Word). at_moment c.args.now c.args.interval (request_of_words c.args.types.now words)) c.as_slice.ensures
-      ∙ ap (λ (read : Result (List Word) WordFault). with_fault of_words read >>= λ words. at_moment c.args.now c.args.interval (request_of_words c.args.types.now words)) (sym c.in_ok-words.ensures)
-      ∙ sym (of_its_words c.args.types.now c.args.text.now c.in-Ok.text.now c.args.now c.args.interval (sym c.is_blank.ensures ∙ c.if-is_blank.false) c.in-Ok.ensures.cases) in
+    ∙ ap (λ (read : Result (List Word) WordFault). with_fault of_words read >>= λ words. at_moment c.args.now c.args.interval (request_of_words c.args.types.now words)) (sym c.in_ok-words.ensures)
+    ∙ sym (of_its_words c.args.types.now c.args.text.now c.in-Ok.text.now c.args.now c.args.interval (sym c.is_blank.ensures ∙ c.if-is_blank.false) c.in-Ok.ensures.cases) in
     subst (λ (r : Result Command LineFault). Gives (λ command. command) fault c.read_words.result r) total c.read_words.ensures
