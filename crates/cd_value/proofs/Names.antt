@@ -1,18 +1,17 @@
 -- What the name of an identifier reads as.
-use Rattle.std.proofs.Common.{◌≡◌, ℕ, suc, ◌+◌, ◌<◌, ◌≤◌, Bool, true, false, not, ◌||◌, ◌&&◌, cond, List, [], ◌∷◌, ◌++◌, length, take, drop, refl, ap, sym, ◌∙◌, subst, arith, append_assoc, append-nil}
-use Rattle.std.specs.Prelude.{nat_lt, count_by, Result, Ok, Err}
+use Rattle.std.proofs.Common.{◌≡◌, ℕ, suc, ◌+◌, ◌<◌, ◌≤◌, Bool, true, false, not, ◌||◌, cond, List, [], ◌∷◌, ◌++◌, length, take, drop, refl, ap, sym, ◌∙◌, subst, arith, append_assoc, append-nil}
+use Rattle.std.specs.Prelude.{nat_lt, count_by, Ok, Err}
 use Rattle.std.specs.List.{list_any, list_all, position_or_len, before_first, after_first}
 use Rattle.std.proofs.Math.Seq.{take-append_seam, drop-append-add, take-length}
 use Rattle.std.proofs.lemmas.List.{take-append-le, length-take}
 use Rattle.std.proofs.Math.Bool.{or-false}
-use Rattle.cd_value.specs.declared.identifier.IdFault.{IdFault}
 use Rattle.cd_value.specs.declared.identifier.IdFault.TheVariants.{BadIdentifier, FieldTooLong}
 use Rattle.std.proofs.Math.ListN.{drop_of_length-le}
 use Rattle.std.proofs.lemmas.List.Folds.{list_any-append}
-use Rattle.std.proofs.lemmas.Bool.{or_parts, and_parts, not-true, le-ltb, eqb-true}
-use Rattle.cd_value.specs.Identifier.{Fields, is_control, is_slash, is_dash, is_empty, is_type_byte, is_field, is_identifier, plugin_part, type_part, fields_of, has_bad_field, has_long_field, is_bad_text, read_identifier, dashed, name_of, as_named, read_of_name}
+use Rattle.std.proofs.lemmas.Bool.{or_parts, and_parts, le-ltb, eqb-true}
+use Rattle.cd_value.specs.Identifier.{Fields, is_control, is_slash, is_dash, is_empty, is_type_byte, is_identifier, plugin_part, type_part, fields_of, has_bad_field, has_long_field, is_bad_text, read_identifier, dashed, name_of, as_named, read_of_name}
 use Rattle.cd_value.proofs.Readable.{IsWhole, whole, field_lengths}
-use Rattle.cd_value.proofs.Cuts.{count_by_after_first, list_any_take, list_any_before_first}
+use Rattle.cd_value.proofs.Cuts.{count_by_after_first}
 
 -- ---- a text cut at a byte that passes
 
@@ -101,7 +100,6 @@ no_dash (b ∷ bs) h =
 
 -- ---- the name
 
-
 -- what stands behind the first slash of the name
 abbrev rest_of : Fields → List ℕ
 rest_of id = (id.plugin ++ dashed id.plugin_instance) ++ 47 ∷ (id.type_name ++ dashed id.type_instance)
@@ -139,7 +137,7 @@ module _ (id : Fields) (w : IsWhole id) where
   two_slashes =
       let first : count_by is_slash (name_of id) ≡ 1 + count_by is_slash (rest_of id) = ap (count_by is_slash) (name_shape id) ∙ count_behind is_slash id.host 47 (rest_of id) w.plain.host_slash refl in
       let second : count_by is_slash (rest_of id) ≡ 1 + count_by is_slash (id.type_name ++ dashed id.type_instance) =
-          count_behind is_slash (id.plugin ++ dashed id.plugin_instance) 47 (id.type_name ++ dashed id.type_instance) plugin_part_slash refl in
+      count_behind is_slash (id.plugin ++ dashed id.plugin_instance) 47 (id.type_name ++ dashed id.type_instance) plugin_part_slash refl in
       le-ltb (count_by is_slash (name_of id)) 2 (omega arith)
 
   no_control : list_any is_control (name_of id) ≡ false
@@ -147,7 +145,7 @@ module _ (id : Fields) (w : IsWhole id) where
       let plugin : list_any is_control (id.plugin ++ dashed id.plugin_instance) ≡ false = part_passes_none is_control id.plugin id.plugin_instance refl w.plain.plugin_control w.plain.plugin_instance_control in
       let type_part : list_any is_control (id.type_name ++ dashed id.type_instance) ≡ false = part_passes_none is_control id.type_name id.type_instance refl w.plain.type_control w.plain.type_instance_control in
       let rest : list_any is_control (rest_of id) ≡ false =
-          list_any-append is_control (id.plugin ++ dashed id.plugin_instance) (47 ∷ (id.type_name ++ dashed id.type_instance)) ∙ (rw (plugin, type_part) refl) in
+      list_any-append is_control (id.plugin ++ dashed id.plugin_instance) (47 ∷ (id.type_name ++ dashed id.type_instance)) ∙ (rw (plugin, type_part) refl) in
       ap (list_any is_control) (name_shape id) ∙ list_any-append is_control id.host (47 ∷ rest_of id) ∙ (rw (w.plain.host_control, rest) refl)
 
 short_enough : (bytes : List ℕ) → length bytes ≤ 127 → nat_lt 127 (length bytes) ≡ false

@@ -15,7 +15,9 @@ const WRAP_OF_32_BITS: u64 = 1 << 32;
 impl Rate {
     /// The rate of a value of a source against the value before it, which came `dt` units of 2^-30 s earlier, as in
     /// types.db(5) and collectd.conf(5): a gauge is its own rate; of a counter and of a derive it is the change, and of
-    /// an absolute the value, by the time. Only a gauge has a rate without an earlier value.
+    /// an absolute the value, by the time. Only a gauge has a rate without an earlier value. A counter that stands lower
+    /// than before has wrapped, at 2^32 where it stood below that, and at 2^64 otherwise. A rate below the source's least
+    /// or above its greatest is unknown.
     pub fn of(old: Option<&Value>, new: &Value, dt: u64, source: &DataSource) -> Rate
         ensures value { result ≡ rate_of source.now (option_copied old.entry) new.now dt }
         ensures range { IsTrue (is_known result) → IsTrue (rates.is_within source.now result) }
@@ -31,7 +33,7 @@ impl Rate {
         }
     }
 
-    /// Whether the rate is known and at most `bound` millionths.
+    /// Whether the rate is known and at most `bound` millionths, by its exact fraction.
     pub fn at_most(&self, bound: i128) -> bool
         ensures value { result ≡ rates.at_most self.now bound }
         ensures else_above { IsTrue (is_known self.now) → result ≡ false → IsTrue (rates.at_least self.now bound) }
@@ -43,7 +45,7 @@ impl Rate {
         }
     }
 
-    /// Whether the rate is known and at least `bound` millionths.
+    /// Whether the rate is known and at least `bound` millionths, by its exact fraction.
     pub fn at_least(&self, bound: i128) -> bool
         ensures value { result ≡ rates.at_least self.now bound }
         ensures else_below { IsTrue (is_known self.now) → result ≡ false → IsTrue (rates.at_most self.now bound) }

@@ -21,7 +21,7 @@ pub returns-clause-again : goal.returns-clause-again
 returns-clause-again c =
     let text = c.args.text.now in
     let whole : is_identifier (fields_of text) ≡ true =
-        makes text (shown c.in-Some.parts) c.in-Some.ensures.1 (sym c.has_control.ensures ∙ c.if-has_control.false)
-        (sym c.has_bad_field.ensures ∙ c.if-has_bad_field.false) (sym c.has_long_field.ensures ∙ c.if-has_long_field.false) in
+    makes text (shown c.in-Some.parts) c.in-Some.ensures.1 (sym c.has_control.ensures ∙ c.if-has_control.false)
+    (sym c.has_bad_field.ensures ∙ c.if-has_bad_field.false) (sym c.has_long_field.ensures ∙ c.if-has_long_field.false) in
     let value : c.in_ok-own.field-0 ≡ fields_of text = c.in_ok-own.ensures ∙ c.in-Some.ensures.1 in
     subst (λ (id : Fields). read_identifier (name_of id) ≡ Ok id) (sym value) (read_again (fields_of text) whole (list_any_before_first is_dash (plugin_part text)))
