@@ -1,12 +1,13 @@
 -- The answers of a one-thread daemon after a history.
-use Rattle.std.specs.Prelude.{ℕ, Bool, true, false, ◌||◌, ◌&&◌, not, nat_eq, nat_le, is_some, if◌then◌else◌, List, [], ◌∷◌, map, length, slice_get, codes, Option, None, Some, Result, Ok, Err}
+use Rattle.std.specs.Prelude.{ℕ, Bool, ◌||◌, ◌&&◌, not, nat_eq, nat_le, is_some, if◌then◌else◌, List, [], ◌∷◌, map, length, slice_get, codes, Option, None, Some, Result, Ok, Err}
 use Rattle.std.specs.List.{find, list_any}
 use Rattle.cd_value.specs.declared.data.ValueList.{ValueList}
 use Rattle.cd_value.specs.declared.data.Offered.{Offered}
 use Rattle.cd_value.specs.declared.data.Offered.TheVariants.{Kept}
 use Rattle.cd_registry.specs.declared.calls.Call.{Call}
 use Rattle.cd_history.specs.declared.entry.Handled.{Handled}
-use Rattle.cd_history.specs.declared.entry.How.TheVariants.{Stored}
+use Rattle.cd_history.specs.declared.entry.Found.{Found}
+use Rattle.cd_history.specs.declared.entry.Found.TheVariants as found
 use Rattle.cd_history.specs.declared.entry.RegisterFault.{RegisterFault}
 use Rattle.cd_history.specs.declared.entry.RegisterFault.TheVariants as refused
 use Rattle.cd_history.specs.declared.entry.RetireFault.{RetireFault}
@@ -15,7 +16,13 @@ use Rattle.cd_history.specs.declared.entry.Stopping.{Stopping}
 use Rattle.cd_history.specs.History.{History, handles, is_stopped, kept}
 use Rattle.cd_history.specs.Registrations.{Registration, registrations, live, live_number, is_text, is_plug, is_closed, is_retired}
 use Rattle.cd_history.specs.Leases.{taken_by, takes}
-use Rattle.cd_daemon.specs.Calls.{calls_to, pending}
+use Rattle.cd_types.specs.Types.{set_named}
+use Rattle.cd_cache.specs.declared.entry.CacheEntry.{CacheEntry}
+use Rattle.cd_cache.specs.Cache.{cached}
+use Rattle.cd_cache.specs.Rows.{rows_of}
+use Rattle.cd_daemon.specs.declared.Opening.{Opening}
+use Rattle.cd_daemon.specs.Cached.{cache_after, how_stored}
+use Rattle.cd_daemon.specs.Calls.{calls_to, next_list, pending}
 
 -- the answer, unless a stop came before
 abbrev pub unless_stopped : {A : Type 0} → History → A → Result A Stopping
@@ -52,9 +59,22 @@ retire_answer P r =
 abbrev pub accept_answer : History → List ValueList → Result (List Offered) Stopping
 accept_answer P lists = unless_stopped P (map (λ list. Kept) lists)
 
--- each list is stored, and no writer is skipped
-abbrev pub handle_answer : History → ℕ → Handled
-handle_answer P now = record { how = Stored; skipped = 0 }
+-- a list is stored unless what is cached under its name is as new; no writer is skipped
+abbrev pub handle_answer : Opening → History → Handled
+handle_answer K P = record { how = how_stored (next_list P) (cache_after K P); skipped = 0 }
+
+-- the names of the data sources of a cached list
+abbrev pub source_names : Opening → CacheEntry → List (List ℕ)
+source_names K entry = elim (set_named entry.list.id.type_name K.types) [ None ↦ [] | Some set ↦ map (λ source. source.name) set.sources ]
+
+abbrev pub found_in : Opening → Option CacheEntry → Found
+found_in K None = found.NoSuchValue
+found_in K (Some entry) = found.Got (source_names K entry) entry.rates
+
+-- the rates that are cached under a name, or the rows of all
+abbrev pub query_answer : Opening → History → Option (List ℕ) → Found
+query_answer K P None = found.Listed (rows_of (cache_after K P))
+query_answer K P (Some name) = found_in K (cached name (cache_after K P))
 
 -- a plug-in that is at home and for which a call waits
 abbrev pub is_ready : History → Registration → Bool

@@ -1,6 +1,6 @@
 -- The calls that the entries make, and what each plug-in got.
-use Rattle.std.specs.Prelude.{ℕ, ◌-◌, Bool, nat_eq, List, [], ◌∷◌, ◌++◌, map, length, slice_get, Option, None, Some}
-use Rattle.std.specs.List.{filter, flat_map, zip}
+use Rattle.std.specs.Prelude.{ℕ, ◌-◌, nat_eq, List, [], ◌∷◌, ◌++◌, map, length, slice_get, Option, None, Some}
+use Rattle.std.specs.List.{filter, flat_map}
 use Rattle.cd_value.specs.declared.data.ValueList.{ValueList}
 use Rattle.cd_registry.specs.declared.calls.Answer.{Answer}
 use Rattle.cd_registry.specs.declared.calls.AnsweredCall.{AnsweredCall}

@@ -1,3 +1,4 @@
 pub mod Calls
+pub mod Cached
 pub mod Answers
 pub mod Legal
