@@ -98,6 +98,13 @@ unfolding put_parts
 unknown types name options [] id some read none = cc
 unknown types name options (value ∷ values) id some read none = rw (read, ← none) refl
 
+-- the type is known
+pub known : (types : List DataSet) (name : List ℕ) (options values : List Word) (id : Fields) (set : DataSet) → (length values == 0) ≡ false → read_identifier name ≡ Ok id → Some set ≡ set_named id.type_name types
+    → put_parts types name options values ≡ put_known id set.sources options values
+unfolding put_parts
+known types name options [] id set some read is = cc
+known types name options (value ∷ values) id set some read is = rw (read, ← is) refl
+
 -- ---- the text of a line
 
 pub not_utf8 : (types : List DataSet) (text : List ℕ) → list_all is_blank text ≡ false → (IsUtf8 text → ⊥) → request_of_text types text ≡ Err NotUtf8
