@@ -8,3 +8,6 @@ mod rates;
 
 pub use cache::Cache;
 pub use entry::{CacheEntry, Updated};
+
+#[cfg(test)]
+mod tests;

@@ -23,8 +23,8 @@ use Rattle.cd_reading.specs.Gives.{Refuses}
 use Rattle.cd_sock.specs.Faults.{fault as fault_of}
 use Rattle.cd_sock.specs.Lines.{Cut}
 use Rattle.cd_sock.specs.Replies.{reply_text}
-use Rattle.cd_sock.specs.Meaning.{meaning, request_of, is_blank_line, ListsFit}
-use Rattle.cd_sock.proofs.Saying.{put_at_zero, get_at_zero, list_at_zero, fault_at_zero, blank_is, not_blank_is}
+use Rattle.cd_sock.specs.Meaning.{meaning, is_blank_line, ListsFit}
+use Rattle.cd_sock.proofs.Laws.{same_fault, same_get_val, same_list_val, same_put_val, blank_line, blank_only}
 use Rattle.cd_history.specs.declared.entry.Entry.TheVariants as entry
 use Rattle.cd_history.specs.declared.entry.Found.{Found}
 use Rattle.cd_history.specs.declared.entry.Stopping.{Stopping}
@@ -145,19 +145,19 @@ along_types types begun now bytes said same is = let M : List DataSet → Type 0
 obeyed : (begun : Seen) (lines : List Cut) (text : List ℕ) (old : Seen) (h : HasServed begun lines text old) (bytes : List ℕ) (now : ℕ) (at : IfSome old.pairs.clock (λ pair. now ≡ pair.0))
     (said : Command) (answer : Reply) (new : Seen) → is_blank_line bytes ≡ false → meaning begun.types now INTERVAL bytes ≡ Ok said → ListsFit old.types said
     → Obeys said answer (with_moment now old) new → HasServed begun (lines ++ Some bytes ∷ []) (text ++ reply_text answer) new
-obeyed begun lines text old h bytes now at command.Blank answer new not is fit o = absurd (not_blank_is begun.types now INTERVAL bytes not is)
+obeyed begun lines text old h bytes now at command.Blank answer new not is fit o = (let both : true ≡ false = sym (blank_only begun.types now INTERVAL bytes is) ∙ not in absurd (cc))
 obeyed begun lines text old h bytes now at (command.PutVal lists) answer new not is fit o =
-    let zero = put_at_zero (request_of begun.types bytes) now INTERVAL lists is in
+    let zero = same_put_val begun.types now INTERVAL 0 INTERVAL bytes lists is in
     let A : Reply → Type 0 = λ a. HasServed begun (lines ++ Some bytes ∷ []) (text ++ reply_text a) new in
     subst A (sym o.0) (served_put begun lines text old h (Some bytes) now at lists zero.0 new o.1 fit zero.1 is)
 obeyed begun lines text old h bytes now at (command.GetVal id) answer new not is fit o =
     let A : Reply → Type 0 = λ a. HasServed begun (lines ++ Some bytes ∷ []) (text ++ reply_text a) new in
     let S : Seen → Type 0 = λ s. HasServed begun (lines ++ Some bytes ∷ []) (text ++ reply_text (reply_of (found_in (opening_of old) (cached (name_of id) old.cache)))) s in
-    subst A (sym o.1) (subst S (sym o.0) (served_asked begun lines text old h (Some bytes) now at id (get_at_zero (request_of begun.types bytes) now INTERVAL id is)))
+    subst A (sym o.1) (subst S (sym o.0) (served_asked begun lines text old h (Some bytes) now at id (same_get_val begun.types now INTERVAL 0 INTERVAL bytes id is)))
 obeyed begun lines text old h bytes now at command.ListVal answer new not is fit o =
     let A : Reply → Type 0 = λ a. HasServed begun (lines ++ Some bytes ∷ []) (text ++ reply_text a) new in
     let S : Seen → Type 0 = λ s. HasServed begun (lines ++ Some bytes ∷ []) (text ++ reply_text (reply.Listed (rows_of old.cache))) s in
-    subst A (sym o.1) (subst S (sym o.0) (served_listed begun lines text old h (Some bytes) now at (list_at_zero (request_of begun.types bytes) now INTERVAL is)))
+    subst A (sym o.1) (subst S (sym o.0) (served_listed begun lines text old h (Some bytes) now at (same_list_val begun.types now INTERVAL 0 INTERVAL bytes is)))
 
 module _ (old at_moment : Seen) (now : ℕ) (at : IfSome old.pairs.clock (λ pair. now ≡ pair.0)) (then : at_moment ≡ with_moment now old) where
   same_types : at_moment.types ≡ old.types
@@ -174,7 +174,7 @@ module _ (old at_moment : Seen) (now : ℕ) (at : IfSome old.pairs.clock (λ pai
   serves_fault bytes fault is begun lines text h =
       let S : Seen → Type 0 = λ s. HasServed begun (lines ++ Some bytes ∷ []) (text ++ reply_text (reply.Fault fault)) s in
       subst S (sym then) (served_refused begun lines text old h (Some bytes) now at fault
-        (fault_at_zero (request_of begun.types bytes) now INTERVAL fault (along_types at_moment.types begun.types now bytes (Err fault) (same_types ∙ h.types) is)))
+        (same_fault begun.types now INTERVAL 0 INTERVAL bytes fault (along_types at_moment.types begun.types now bytes (Err fault) (same_types ∙ h.types) is)))
 
   pub serves_too_long : Serves None (reply_text (reply.Fault faults.LineTooLong)) old at_moment
   serves_too_long begun lines text h =
@@ -182,7 +182,7 @@ module _ (old at_moment : Seen) (now : ℕ) (at : IfSome old.pairs.clock (λ pai
       subst S (sym then) (served_refused begun lines text old h None now at faults.LineTooLong refl)
 
 pub serves_blank : (old : Seen) (bytes : List ℕ) → is_blank_line bytes ≡ true → Serves (Some bytes) [] old old
-serves_blank old bytes is begun lines text h = served_blank begun lines text old h (Some bytes) (blank_is begun.types 0 INTERVAL bytes is)
+serves_blank old bytes is begun lines text h = served_blank begun lines text old h (Some bytes) (blank_line begun.types 0 INTERVAL bytes is)
 
 -- a fault other than want of memory
 pub known_fault : (fault : LineFault) → (fault ≡ faults.Memory → ⊥) → fault_of fault ≡ Some fault

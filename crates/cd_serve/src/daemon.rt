@@ -24,7 +24,7 @@ use cd_history::{Given, Givens};
 use cd_io::{Clock, Dice};
 use cd_registry::{Answer, Call, Plug};
 use cd_types::TypesDb;
-use cd_sock::{Command, Line, LineFault, Reply, print_reply};
+use cd_sock::{Command, Line, LineFault, Reply, is_blank_line, print_reply};
 use cd_value::{DataSource, Lists, Memory, Names, Text, TryCopy, ValueList};
 use std::alloc::Global;
 
@@ -236,7 +236,7 @@ impl<C: Clock, D: Dice, P: Plug> Daemon<C, D, P> {
         match line {
             Line::TooLong => self.refuse(alloc),
             Line::Whole(bytes) => {
-                if Command::is_blank(bytes) {
+                if is_blank_line(bytes) {
                     Ok(Text::new(alloc))
                 } else {
                     self.serve_words(alloc, bytes)

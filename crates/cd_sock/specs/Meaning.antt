@@ -92,6 +92,10 @@ is_blank byte = byte == 32 || byte == 9
 abbrev pub without_return : List ℕ → List ℕ
 without_return line = if slice_index line (length line - 1) == 13 then take (length line - 1) line else line
 
+-- at most 4096 bytes, all blanks but for a carriage return at the end
+abbrev pub is_blank_line : List ℕ → Bool
+is_blank_line line = nat_le (length line) 4096 && list_all is_blank (without_return line)
+
 unfoldable pub request_of_text : List DataSet → List ℕ → Result Request LineFault
 request_of_text types text =
     if list_all is_blank text then Ok Blank
@@ -137,7 +141,3 @@ meaning types now interval line = at_moment now interval (request_of types line)
 abbrev pub ListsFit : List DataSet → Command → Type 0
 ListsFit types (commands.PutVal lists) = IsTrue (list_all (fits types) lists)
 ListsFit types _ = Unit {0}
-
--- a line without a fault that has only blanks
-abbrev pub is_blank_line : List ℕ → Bool
-is_blank_line line = nat_le (length line) 4096 && list_all is_blank (without_return line)

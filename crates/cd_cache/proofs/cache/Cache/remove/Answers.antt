@@ -1,17 +1,13 @@
--- The entry at the place of the name goes.
-use Rattle.std.proofs.Common.{rules, is_some, sym, ap}
-use Rattle.cd_cache.proofs.Places.{cached-at, cached-none, without-at, without-none}
+-- Without the name's entry the others stay, and their names are distinct.
+use Rattle.cd_cache.proofs.Distinct.{are_distinct-without, cached-without, cached-without_same}
 use Rattle.cd_cache.proofs.cache.Cache.remove.Goals as goal
 
-pub returns-in-Some-clause-found : goal.returns-in-Some-clause-found
-returns-in-Some-clause-found c = sym (cached-at c.args.name.now c.args.self.now c.in-Some.at (search rules))
+pub invariant_of-self : goal.invariant_of-self
+invariant_of-self c = rw c.take_out.ensures.after (are_distinct-without c.args.name.now c.self.inside.entries.items c.self.invariant)
 
-pub returns-in-Some-clause-after : goal.returns-in-Some-clause-after
-returns-in-Some-clause-after c =
-    rw (without-at c.args.name.now c.args.self.now c.in-Some.at (search rules)) (search rules)
+pub returns-clause-gone : goal.returns-clause-gone
+returns-clause-gone c = rw c.take_out.ensures.after (cached-without_same c.args.name.now c.self.inside.entries.items c.self.invariant)
 
-pub returns-in-None-clause-found : goal.returns-in-None-clause-found
-returns-in-None-clause-found c = sym (ap is_some (cached-none c.args.name.now c.args.self.now (search rules)))
-
-pub returns-in-None-clause-after : goal.returns-in-None-clause-after
-returns-in-None-clause-after c = sym (without-none c.args.name.now c.args.self.now (search rules))
+pub returns-clause-others : goal.returns-clause-others
+returns-clause-others c other apart =
+    rw (c.take_out.ensures.after, c.self.view_is) (cached-without c.args.name.now other c.args.self.now apart)
