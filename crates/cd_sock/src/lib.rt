@@ -13,4 +13,4 @@ mod values;
 pub use command::{Command, is_blank_line};
 pub use fault::LineFault;
 pub use lines::{Line, LineCutter};
-pub use reply::Reply;
+pub use reply::{Reply, print_reply};
