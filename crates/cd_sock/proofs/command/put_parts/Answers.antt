@@ -20,6 +20,6 @@ pub returns : goal.returns
 returns c =
     let same : put_known c.in_ok-id.id c.as_slice.result.now c.args.options.now c.args.values.now ≡ put_parts c.args.types.now c.args.name.now c.args.options.now c.args.values.now
     = ap (λ (sources : List DataSource). put_known c.in_ok-id.id sources c.args.options.now c.args.values.now) c.as_slice.ensures
-      ∙ sym (known c.args.types.now c.args.name.now c.args.options.now c.args.values.now c.in_ok-id.id c.in-Some.set.now (sym c.is_empty.ensures ∙ c.if-is_empty.false) c.in_ok-id.ensures.ok
-        (c.in-Some.ensures ∙ ap (λ (name : List ℕ). set_named name c.args.types.now) (c.as_str.ensures ∙ ap (λ (id : Fields). id.type_name) c.id.view_is))) in
+    ∙ sym (known c.args.types.now c.args.name.now c.args.options.now c.args.values.now c.in_ok-id.id c.in-Some.set.now (sym c.is_empty.ensures ∙ c.if-is_empty.false) c.in_ok-id.ensures.ok
+    (c.in-Some.ensures ∙ ap (λ (name : List ℕ). set_named name c.args.types.now) (c.as_str.ensures ∙ ap (λ (id : Fields). id.type_name) c.id.view_is))) in
     subst (λ (r : Result Request LineFault). Gives (λ command. command) fault c.put_known.result (at_moment c.args.now c.args.interval r)) same c.put_known.ensures
