@@ -4,3 +4,5 @@ pub mod Ends
 pub mod Gifts
 pub mod Working
 pub mod Serving
+pub mod Speaking
+pub mod Cutting

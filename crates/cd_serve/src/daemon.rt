@@ -164,7 +164,7 @@ impl<C: Clock, D: Dice, P: Plug> Daemon<C, D, P> {
             Some(entry) => {
                 let names = source_names(alloc, &self.types, entry)?;
                 let rates = entry.rates.copy(alloc)?;
-                Ok(Reply::Got { names, rates })
+                Ok(Reply::Got(names, rates))
             }
             None => Ok(Reply::NoSuchValue),
         }

@@ -2,6 +2,9 @@
 #![tactic(auto)]
 
 mod daemon;
+mod end;
 mod shelf;
+mod stream;
 
+pub use end::{End, status, text_of};
 pub use shelf::{Shelved, ShelvedOf, ShelvedProbe, ShelvedProbeOf};
