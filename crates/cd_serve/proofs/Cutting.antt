@@ -1,5 +1,5 @@
 -- Lines are cut and served on a link, step by step.
-use Rattle.std.proofs.Common.{◌≡◌, ◌≤◌, ◌<◌, ℕ, List, [], ◌∷◌, ◌++◌, length, take, drop, map, Option, None, Some, refl, sym, ap, ◌∙◌, subst, append_assoc, arith, true, IfSome, ◌⊎◌, inl, inr, length-append, length-take, length-drop, Result, Ok, ◌+◌, ◌-◌, min}
+use Rattle.std.proofs.Common.{◌≡◌, ◌≤◌, ◌<◌, ℕ, List, [], ◌∷◌, ◌++◌, length, take, drop, map, Option, None, Some, refl, sym, ap, ◌∙◌, subst, append_assoc, arith, true, IfSome, ◌⊎◌, inl, inr, length-append, length-take, length-drop, Result, ◌+◌, ◌-◌, min}
 use Rattle.std.proofs.lemmas.List.{append-nil, take-append-drop, take-append-le, take_all, take-take}
 use Rattle.std.proofs.lemmas.Bool.{eqb-true}
 use Rattle.std.specs.Prelude.{◌==◌}
@@ -53,12 +53,14 @@ module _ (begun : Seen) (first now : LinkTells) (cut_off rest beyond held : List
   -- no line ended
   pub no_line : t.1 ≡ None → InSession begun first now (cut_off ++ take t.0 rest) (drop t.0 rest) beyond t.2 seen
   no_line e = record {
-      lines = s.lines; text = s.text; served = s.served;
-      cut = let G : List Cut → Type 0 = λ ls. Given (cut_off ++ take t.0 rest) t.2 ls in
+    lines = s.lines;
+    text = s.text;
+    served = s.served;
+    cut = let G : List Cut → Type 0 = λ ls. Given (cut_off ++ take t.0 rest) t.2 ls in
         subst G (ap (λ (o : Option Cut). s.lines ++ option_to_list o) e ∙ append-nil s.lines) (given_more cut_off held rest s.lines t s.cut is);
-      follows = λ more. ap (λ (ls : List Cut). ls ++ cut_lines (t.2 ++ (drop t.0 rest ++ more))) (sym (ap (λ (o : Option Cut). s.lines ++ option_to_list o) e ∙ append-nil s.lines)) ∙ follows_then more;
-      spoke = spoke_along s.text now s.spoke;
-    }
+    follows = λ more. ap (λ (ls : List Cut). ls ++ cut_lines (t.2 ++ (drop t.0 rest ++ more))) (sym (ap (λ (o : Option Cut). s.lines ++ option_to_list o) e ∙ append-nil s.lines)) ∙ follows_then more;
+    spoke = spoke_along s.text now s.spoke;
+  }
 
   -- a line ended and was served
   module _ (line : Cut) (ended : t.1 ≡ Some line) (new : Seen) (reply : List ℕ) (serves : Serves line reply seen new) where
@@ -73,24 +75,26 @@ module _ (begun : Seen) (first now : LinkTells) (cut_off rest beyond held : List
 
     pub line_served : (last : LinkTells) → Spoke [] reply now last → InSession begun first last (cut_off ++ take t.0 rest) (drop t.0 rest) beyond t.2 new
     line_served last p = record {
-        lines = s.lines ++ line ∷ []; text = s.text ++ reply; served = serves begun s.lines s.text s.served;
-        cut = let G : List Cut → Type 0 = λ ls. Given (cut_off ++ take t.0 rest) t.2 ls in subst G lines_are (given_more cut_off held rest s.lines t s.cut is);
-        follows = follows_line;
-        spoke = spoke_along (s.text ++ reply) last (spoke_line reply last p);
-      }
+      lines = s.lines ++ line ∷ [];
+      text = s.text ++ reply;
+      served = serves begun s.lines s.text s.served;
+      cut = let G : List Cut → Type 0 = λ ls. Given (cut_off ++ take t.0 rest) t.2 ls in subst G lines_are (given_more cut_off held rest s.lines t s.cut is);
+      follows = follows_line;
+      spoke = spoke_along (s.text ++ reply) last (spoke_line reply last p);
+    }
 
     pub line_broken : (last : LinkTells) → SaidInPart reply now last → Broken begun first last new
     line_broken last p = record {
-        heard = cut_off ++ (rest ++ beyond);
-        lines = s.lines ++ line ∷ [];
-        unserved = cut_lines (t.2 ++ (drop t.0 rest ++ beyond));
-        are = follows_line beyond ∙ ap cut_lines (sym (whole_more beyond));
-        text = s.text ++ p.written;
-        unwritten = p.unwritten;
-        served = served_in_part begun (s.lines ++ line ∷ []) s.text reply new now last p (serves begun s.lines s.text s.served);
-        spoke = spoke_line p.written last p.spoke;
-        rose = let faults = s.spoke.faults in let rose = p.rose in omega arith;
-      }
+      heard = cut_off ++ (rest ++ beyond);
+      lines = s.lines ++ line ∷ [];
+      unserved = cut_lines (t.2 ++ (drop t.0 rest ++ beyond));
+      are = follows_line beyond ∙ ap cut_lines (sym (whole_more beyond));
+      text = s.text ++ p.written;
+      unwritten = p.unwritten;
+      served = served_in_part begun (s.lines ++ line ∷ []) s.text reply new now last p (serves begun s.lines s.text s.served);
+      spoke = spoke_line p.written last p.spoke;
+      rose = let faults = s.spoke.faults in let rose = p.rose in omega arith;
+    }
 
 -- ---- the whole of a piece
 
@@ -123,11 +127,11 @@ module _ (begun : Seen) (first now : LinkTells) (heard held : List ℕ) (seen : 
   -- there is no last line
   pub no_last : last_line held ≡ None → (text : List ℕ) × HasServed begun (cut_lines heard) text seen × Spoke heard text first now
   no_last e = (
-      s.text,
-      let H : List Cut → Type 0 = λ ls. HasServed begun ls s.text seen in
+    s.text,
+    let H : List Cut → Type 0 = λ ls. HasServed begun ls s.text seen in
         subst H (sym (append-nil s.lines) ∙ ap (λ (o : Option Cut). s.lines ++ option_to_list o) (sym e) ∙ given_all heard held s.lines s.cut) s.served,
-      spoke_all,
-    )
+    spoke_all,
+  )
 
   module _ (line : Cut) (ended : last_line held ≡ Some line) (new : Seen) (reply : List ℕ) (serves : Serves line reply seen new) where
     last_lines : s.lines ++ line ∷ [] ≡ cut_lines heard
@@ -135,23 +139,23 @@ module _ (begun : Seen) (first now : LinkTells) (heard held : List ℕ) (seen : 
 
     pub last_served : (last : LinkTells) → Spoke [] reply now last → (text : List ℕ) × HasServed begun (cut_lines heard) text new × Spoke heard text first last
     last_served last p = (
-        s.text ++ reply,
-        let H : List Cut → Type 0 = λ ls. HasServed begun ls (s.text ++ reply) new in subst H last_lines (serves begun s.lines s.text s.served),
-        spoke_after heard s.text reply first now last spoke_all p,
-      )
+      s.text ++ reply,
+      let H : List Cut → Type 0 = λ ls. HasServed begun ls (s.text ++ reply) new in subst H last_lines (serves begun s.lines s.text s.served),
+      spoke_after heard s.text reply first now last spoke_all p,
+    )
 
     pub last_broken : (last : LinkTells) → SaidInPart reply now last → Broken begun first last new
     last_broken last p = record {
-        heard = heard;
-        lines = s.lines ++ line ∷ [];
-        unserved = [];
-        are = append-nil (s.lines ++ line ∷ []) ∙ last_lines;
-        text = s.text ++ p.written;
-        unwritten = p.unwritten;
-        served = served_in_part begun (s.lines ++ line ∷ []) s.text reply new now last p (serves begun s.lines s.text s.served);
-        spoke = spoke_after heard s.text p.written first now last spoke_all p.spoke;
-        rose = let faults = s.spoke.faults in let rose = p.rose in omega arith;
-      }
+      heard = heard;
+      lines = s.lines ++ line ∷ [];
+      unserved = [];
+      are = append-nil (s.lines ++ line ∷ []) ∙ last_lines;
+      text = s.text ++ p.written;
+      unwritten = p.unwritten;
+      served = served_in_part begun (s.lines ++ line ∷ []) s.text reply new now last p (serves begun s.lines s.text s.served);
+      spoke = spoke_after heard s.text p.written first now last spoke_all p.spoke;
+      rose = let faults = s.spoke.faults in let rose = p.rose in omega arith;
+    }
 
 -- nothing more is left after a text was said
 still_ended : (first mid last : LinkTells) (said : List ℕ) → Spoke [] said mid last → (IfSome mid.left (λ bytes. bytes ≡ [])) ⊎ Rose first.quiets mid.quiets → (IfSome last.left (λ bytes. bytes ≡ [])) ⊎ Rose first.quiets last.quiets
@@ -170,28 +174,34 @@ module _ (begun : Seen) (first now next : LinkTells) (done held : List ℕ) (see
   -- more was heard, of which a piece is to be cut
   pub heard_more : (heard piece beyond : List ℕ) → heard ≡ piece ++ beyond → Spoke heard [] now next → InSession begun first next done piece beyond held seen
   heard_more heard piece beyond parts p = record {
-      lines = s.lines; text = s.text; served = s.served; cut = s.cut;
-      follows = λ more. s.follows (piece ++ more);
-      spoke =
+    lines = s.lines;
+    text = s.text;
+    served = s.served;
+    cut = s.cut;
+    follows = λ more. s.follows (piece ++ more);
+    spoke =
         let H : List ℕ → Type 0 = λ h. Spoke h s.text first next in
         let T : List ℕ → Type 0 = λ t. Spoke ((done ++ []) ++ heard) t first next in
         subst H (ap (λ (w : List ℕ). w ++ heard) (append-nil done) ∙ ap (λ (w : List ℕ). done ++ w) parts)
-          (subst T (append-nil s.text) (spoke_then (done ++ []) heard s.text [] first now next s.spoke p));
-    }
+        (subst T (append-nil s.text) (spoke_then (done ++ []) heard s.text [] first now next s.spoke p));
+  }
 
   -- the link failed
   pub broken_off : Spoke [] [] now next → Rose now.faults next.faults → Broken begun first next seen
   broken_off p rose = record {
-      heard = done; lines = s.lines; unserved = cut_lines (held ++ []);
-      are = s.follows [] ∙ ap cut_lines (append-nil done);
-      text = s.text; unwritten = [];
-      served = let H : List ℕ → Type 0 = λ t. HasServed begun s.lines t seen in subst H (sym (append-nil s.text)) s.served;
-      spoke =
+    heard = done;
+    lines = s.lines;
+    unserved = cut_lines (held ++ []);
+    are = s.follows [] ∙ ap cut_lines (append-nil done);
+    text = s.text;
+    unwritten = [];
+    served = let H : List ℕ → Type 0 = λ t. HasServed begun s.lines t seen in subst H (sym (append-nil s.text)) s.served;
+    spoke =
         let H : List ℕ → Type 0 = λ h. Spoke h s.text first next in
         let T : List ℕ → Type 0 = λ t. Spoke ((done ++ []) ++ []) t first next in
         subst H (append-nil (done ++ []) ∙ append-nil done) (subst T (append-nil s.text) (spoke_then (done ++ []) [] s.text [] first now next s.spoke p));
-      rose = let faults = s.spoke.faults in later_rose first.faults now.faults next.faults faults rose;
-    }
+    rose = let faults = s.spoke.faults in later_rose first.faults now.faults next.faults faults rose;
+  }
 
 front_of : (xs ys : List ℕ) → take (length xs) (xs ++ ys) ≡ xs
 front_of xs ys = let all : take (length xs) xs ≡ xs = take_all (length xs) xs (search arith) in take-append-le (length xs) xs ys (search arith) ∙ all
@@ -200,13 +210,13 @@ front_of xs ys = let all : take (length xs) xs ≡ xs = take_all (length xs) xs 
 pub too_much : (begun : Seen) (first now : LinkTells) (taken beyond held : List ℕ) (seen : Seen) → length taken ≡ LIMIT → 0 < length beyond
     → InSession begun first now taken [] beyond held seen → TooMuch begun first now seen
 too_much begun first now taken beyond held seen full more s = record {
-    heard = taken ++ beyond;
-    text = s.text;
-    long = let full = full in let more = more in omega (arith, length-append taken beyond);
-    served = let H : List Cut → Type 0 = λ ls. HasServed begun ls s.text seen in
+  heard = taken ++ beyond;
+  text = s.text;
+  long = let full = full in let more = more in omega (arith, length-append taken beyond);
+  served = let H : List Cut → Type 0 = λ ls. HasServed begun ls s.text seen in
       subst H (s.cut.are_whole ∙ ap (λ (w : List ℕ). map cut (whole_lines w)) (sym front)) s.served;
-    spoke = s.spoke;
-  }
+  spoke = s.spoke;
+}
   where
     front : take LIMIT (taken ++ beyond) ≡ taken
     front = ap (λ (n : ℕ). take n (taken ++ beyond)) (sym full) ∙ front_of taken beyond

@@ -1,5 +1,5 @@
 -- What the clock and the dice gave, one gift after the other.
-use Rattle.std.proofs.Common.{◌≡◌, ℕ, List, [], ◌∷◌, ◌++◌, map, Option, IfSome, refl, sym, ap, ◌∙◌, subst, append_assoc}
+use Rattle.std.proofs.Common.{◌≡◌, ℕ, List, [], ◌∷◌, ◌++◌, map, Option, IfSome, refl, sym, ap, ◌∙◌, subst}
 use Rattle.std.proofs.lemmas.List.{append-nil}
 use Rattle.std.specs.Option.{option_map}
 use Rattle.cd_registry.specs.declared.calls.Answer.{Answer}
@@ -42,23 +42,23 @@ gave_nothing pairs = record { moments = refl; words = refl }
 pub gave_moment : (begun pairs : Pairs) (given : List Given) (now : ℕ) → GaveAll begun pairs given → IfSome pairs.clock (λ pair. now ≡ pair.0)
     → GaveAll begun (record { clock = option_map clock_after pairs.clock; dice = pairs.dice }) (given ++ Now now ∷ [])
 gave_moment begun pairs given now g is = record {
-    moments = along _ _ _ _ _ (sym (moments-append given (Now now ∷ []))) (gave_more clock_after begun.clock pairs.clock _ (moments given) (now ∷ []) g.moments (is, refl));
-    words = along _ _ _ _ _ (sym (append-nil (words given)) ∙ sym (words-append given (Now now ∷ []))) g.words;
-  }
+  moments = along _ _ _ _ _ (sym (moments-append given (Now now ∷ []))) (gave_more clock_after begun.clock pairs.clock _ (moments given) (now ∷ []) g.moments (is, refl));
+  words = along _ _ _ _ _ (sym (append-nil (words given)) ∙ sym (words-append given (Now now ∷ []))) g.words;
+}
 
 pub gave_answer : (begun pairs : Pairs) (given : List Given) (answer : Answer) → GaveAll begun pairs given → GaveAll begun pairs (given ++ Answered answer ∷ [])
 gave_answer begun pairs given answer g = record {
-    moments = along _ _ _ _ _ (sym (append-nil (moments given)) ∙ sym (moments-append given (Answered answer ∷ []))) g.moments;
-    words = along _ _ _ _ _ (sym (append-nil (words given)) ∙ sym (words-append given (Answered answer ∷ []))) g.words;
-  }
+  moments = along _ _ _ _ _ (sym (append-nil (moments given)) ∙ sym (moments-append given (Answered answer ∷ []))) g.moments;
+  words = along _ _ _ _ _ (sym (append-nil (words given)) ∙ sym (words-append given (Answered answer ∷ []))) g.words;
+}
 
 pub gave_words : (begun pairs : Pairs) (last : Option (ℕ × ℕ)) (given : List Given) (rolled : List ℕ) → GaveAll begun pairs given → Gave dice_after pairs.dice rolled last
     → GaveAll begun (record { clock = pairs.clock; dice = last }) (given ++ map Word rolled)
 gave_words begun pairs last given rolled g more = record {
-    moments = along _ _ _ _ _ (sym (append-nil (moments given)) ∙ ap (λ (ns : List ℕ). moments given ++ ns) (sym (moments-words rolled)) ∙ sym (moments-append given (map Word rolled))) g.moments;
-    words = along _ _ _ _ _ (ap (λ (ns : List ℕ). words given ++ ns) (sym (words-words rolled)) ∙ sym (words-append given (map Word rolled)))
+  moments = along _ _ _ _ _ (sym (append-nil (moments given)) ∙ ap (λ (ns : List ℕ). moments given ++ ns) (sym (moments-words rolled)) ∙ sym (moments-append given (map Word rolled))) g.moments;
+  words = along _ _ _ _ _ (ap (λ (ns : List ℕ). words given ++ ns) (sym (words-words rolled)) ∙ sym (words-append given (map Word rolled)))
       (gave_more dice_after begun.dice pairs.dice last (words given) rolled g.words more);
-  }
+}
 
 -- one word after others
 pub one_more_word : (begun mid : Option (ℕ × ℕ)) (rolled : List ℕ) (word : ℕ) → Gave dice_after begun rolled mid → IfSome mid (λ pair. word ≡ pair.0)

@@ -6,3 +6,4 @@ pub mod Working
 pub mod Serving
 pub mod Speaking
 pub mod Cutting
+pub mod Promises

@@ -1,11 +1,8 @@
 -- Lines are served, one after the other.
-use Rattle.std.proofs.Common.{◌≡◌, ℕ, ◌+◌, Bool, true, false, List, [], ◌∷◌, ◌++◌, length, map, Option, None, Some, IfSome, IfOk, IsTrue, Result, Ok, Err, refl, sym, ap, ◌∙◌, subst, append_assoc}
+use Rattle.std.proofs.Common.{◌≡◌, ℕ, true, false, List, [], ◌∷◌, ◌++◌, map, Option, None, Some, IfSome, IfOk, IsTrue, Result, Ok, Err, refl, sym, ap, ◌∙◌, subst, append_assoc}
 use Rattle.std.proofs.lemmas.List.{append-nil}
 use Rattle.std.specs.List.{list_all}
-use Rattle.std.specs.Option.{option_map}
-use Rattle.cd_io.specs.Told.{clock_after}
 use Rattle.cd_value.specs.declared.data.Offered.{Offered}
-use Rattle.cd_value.specs.declared.data.Offered.TheVariants.{Kept}
 use Rattle.cd_value.specs.declared.data.ValueList.{ValueList}
 use Rattle.cd_value.specs.declared.data.DataSet.{DataSet}
 use Rattle.cd_value.specs.Identifier.{Fields, name_of}
@@ -31,15 +28,11 @@ use Rattle.cd_history.specs.declared.entry.Stopping.{Stopping}
 use Rattle.cd_history.specs.declared.given.Given.{Given}
 use Rattle.cd_history.specs.declared.given.Given.TheVariants.{Now, Word}
 use Rattle.cd_history.specs.History.{History, ◌▸◌}
-use Rattle.cd_daemon.specs.declared.Opening.{Opening}
 use Rattle.cd_daemon.specs.Answers.{accept_answer, query_answer, found_in}
-use Rattle.cd_daemon.specs.Cached.{cache_after}
 use Rattle.cd_transcript.specs.Transcripts.{Said, Written, reply_of, reply_to}
-use Rattle.cd_transcript.specs.LineRuns.{OnShelf, registered, Serves as ServesLines, nothing, blank, refused, accepted, asked, listed, one_more}
+use Rattle.cd_transcript.specs.LineRuns.{registered, Serves as ServesLines, nothing, blank, refused, accepted, asked, listed, one_more}
 use Rattle.cd_transcript.proofs.Written.{written_more, blank_writes, refused_writes, accepted_writes, asked_writes, listed_writes}
-use Rattle.cd_serve.specs.Standing.{RunsOn}
-use Rattle.cd_serve.specs.Tells.{Pairs, GaveAll}
-use Rattle.cd_serve.specs.Progress.{INTERVAL, says, Seen, opening_of, HasServed, IsWorking, with_moment, Rolled, Puts, Obeys, Serves}
+use Rattle.cd_serve.specs.Progress.{INTERVAL, says, Seen, opening_of, HasServed, IsWorking, with_moment, Puts, Obeys, Serves}
 use Rattle.cd_serve.proofs.Gifts.{gave_moment, gave_words}
 use Rattle.cd_serve.proofs.Steps.{accepted_ok, works_on}
 use Rattle.cd_serve.proofs.Shelves.{run_accepts, run_asks}
@@ -48,26 +41,26 @@ module _ (begun : Seen) (lines : List Cut) (text : List ℕ) (old : Seen) (h : H
   -- a blank line changes nothing
   pub served_blank : says begun.types line 0 ≡ Ok command.Blank → HasServed begun (lines ++ line ∷ []) (text ++ []) old
   served_blank is = record {
-      past = h.past;
-      types = h.types;
-      runs = h.runs;
-      serves = subst (λ (given : List Given). ServesLines (opening_of begun) (says begun.types) (lines ++ line ∷ []) (registered begun.shelf []) given h.past) (append-nil old.given) (one_more h.serves (blank is));
-      written = written_more _ lines line h.past h.past text [] h.written (blank_writes _ line h.past is);
-      gave = h.gave;
-    }
+    past = h.past;
+    types = h.types;
+    runs = h.runs;
+    serves = subst (λ (given : List Given). ServesLines (opening_of begun) (says begun.types) (lines ++ line ∷ []) (registered begun.shelf []) given h.past) (append-nil old.given) (one_more h.serves (blank is));
+    written = written_more _ lines line h.past h.past text [] h.written (blank_writes _ line h.past is);
+    gave = h.gave;
+  }
 
   module _ (now : ℕ) (at : IfSome old.pairs.clock (λ pair. now ≡ pair.0)) where
     -- a refused line only asks a moment
     pub served_refused : (fault : LineFault) → says begun.types line 0 ≡ Err fault
         → HasServed begun (lines ++ line ∷ []) (text ++ reply_text (reply.Fault fault)) (with_moment now old)
     served_refused fault is = record {
-        past = h.past;
-        types = h.types;
-        runs = h.runs;
-        serves = one_more h.serves (refused is);
-        written = written_more _ lines line h.past h.past text (reply_text (reply.Fault fault)) h.written (refused_writes _ line h.past fault is);
-        gave = gave_moment begun.pairs old.pairs old.given now h.gave at;
-      }
+      past = h.past;
+      types = h.types;
+      runs = h.runs;
+      serves = one_more h.serves (refused is);
+      written = written_more _ lines line h.past h.past text (reply_text (reply.Fault fault)) h.written (refused_writes _ line h.past fault is);
+      gave = gave_moment begun.pairs old.pairs old.given now h.gave at;
+    }
 
     same_cache : (name : List ℕ) → query_answer (opening_of begun) h.past (Some name) ≡ found_in (opening_of old) (cached name old.cache)
     same_cache name = rw (h.runs.standing.caches, h.types) refl
@@ -76,27 +69,27 @@ module _ (begun : Seen) (lines : List Cut) (text : List ℕ) (old : Seen) (h : H
     pub served_asked : (id : Fields) → says begun.types line 0 ≡ Ok (command.GetVal id)
         → HasServed begun (lines ++ line ∷ []) (text ++ reply_text (reply_of (found_in (opening_of old) (cached (name_of id) old.cache)))) (with_moment now old)
     served_asked id is = record {
-        past = h.past ▸ entry.Query 0 (Some (name_of id)) (query_answer (opening_of begun) h.past (Some (name_of id)));
-        types = h.types;
-        runs = run_asks (Some (name_of id)) h.runs;
-        serves = one_more h.serves (asked is);
-        written = let W : Found → Type 0 = λ found. Written (says begun.types) (lines ++ line ∷ []) (h.past ▸ entry.Query 0 (Some (name_of id)) (query_answer (opening_of begun) h.past (Some (name_of id)))) (text ++ reply_text (reply_of found)) in
+      past = h.past ▸ entry.Query 0 (Some (name_of id)) (query_answer (opening_of begun) h.past (Some (name_of id)));
+      types = h.types;
+      runs = run_asks (Some (name_of id)) h.runs;
+      serves = one_more h.serves (asked is);
+      written = let W : Found → Type 0 = λ found. Written (says begun.types) (lines ++ line ∷ []) (h.past ▸ entry.Query 0 (Some (name_of id)) (query_answer (opening_of begun) h.past (Some (name_of id)))) (text ++ reply_text (reply_of found)) in
           subst W (same_cache (name_of id)) (written_more _ lines line h.past _ text _ h.written (asked_writes _ line h.past id (Some (name_of id)) _ is));
-        gave = gave_moment begun.pairs old.pairs old.given now h.gave at;
-      }
+      gave = gave_moment begun.pairs old.pairs old.given now h.gave at;
+    }
 
     -- all rows are asked for
     pub served_listed : says begun.types line 0 ≡ Ok command.ListVal
         → HasServed begun (lines ++ line ∷ []) (text ++ reply_text (reply.Listed (rows_of old.cache))) (with_moment now old)
     served_listed is = record {
-        past = h.past ▸ entry.Query 0 None (query_answer (opening_of begun) h.past None);
-        types = h.types;
-        runs = run_asks None h.runs;
-        serves = one_more h.serves (listed is);
-        written = let W : List CacheEntry → Type 0 = λ cache. Written (says begun.types) (lines ++ line ∷ []) (h.past ▸ entry.Query 0 None (query_answer (opening_of begun) h.past None)) (text ++ reply_text (reply.Listed (rows_of cache))) in
+      past = h.past ▸ entry.Query 0 None (query_answer (opening_of begun) h.past None);
+      types = h.types;
+      runs = run_asks None h.runs;
+      serves = one_more h.serves (listed is);
+      written = let W : List CacheEntry → Type 0 = λ cache. Written (says begun.types) (lines ++ line ∷ []) (h.past ▸ entry.Query 0 None (query_answer (opening_of begun) h.past None)) (text ++ reply_text (reply.Listed (rows_of cache))) in
           subst W h.runs.standing.caches (written_more _ lines line h.past _ text _ h.written (listed_writes _ line h.past None _ is));
-        gave = gave_moment begun.pairs old.pairs old.given now h.gave at;
-      }
+      gave = gave_moment begun.pairs old.pairs old.given now h.gave at;
+    }
 
     -- lists are accepted and handled
     module _ (lists at_zero : List ValueList) (new : Seen) (puts : Puts lists (with_moment now old) new) (fit : IsTrue (list_all (fits old.types) lists)) where
@@ -108,35 +101,35 @@ module _ (begun : Seen) (lines : List Cut) (text : List ℕ) (old : Seen) (h : H
 
       begins : IsWorking begun start puts.mid.given lists puts.mid
       begins = let W : Seen → Type 0 = IsWorking begun start puts.mid.given lists in subst W (sym puts.rolled.seen) (record {
-          past = start;
-          types = h.types;
-          runs = run_accepts lists words now h.runs (let F : List DataSet → Type 0 = λ types. IsTrue (list_all (fits types) lists) in subst F h.types fit) puts.rolled.many;
-          given = [];
-          follows = sym (append-nil _) ∙ ap (λ (given : List Given). given ++ []) (sym (ap (λ (s : Seen). s.given) puts.rolled.seen));
-          works = nothing;
-          gave = gave_words begun.pairs _ puts.mid.pairs.dice _ words (gave_moment begun.pairs old.pairs old.given now h.gave at) puts.rolled.gave;
-        })
+        past = start;
+        types = h.types;
+        runs = run_accepts lists words now h.runs (let F : List DataSet → Type 0 = λ types. IsTrue (list_all (fits types) lists) in subst F h.types fit) puts.rolled.many;
+        given = [];
+        follows = sym (append-nil _) ∙ ap (λ (given : List Given). given ++ []) (sym (ap (λ (s : Seen). s.given) puts.rolled.seen));
+        works = nothing;
+        gave = gave_words begun.pairs _ puts.mid.pairs.dice _ words (gave_moment begun.pairs old.pairs old.given now h.gave at) puts.rolled.gave;
+      })
 
       ends : IsWorking begun start puts.mid.given [] new
       ends = puts.works begun start puts.mid.given begins
 
       given_is : new.given ≡ old.given ++ (Now now ∷ map Word words ++ ends.given)
       given_is = ends.follows ∙ ap (λ (s : Seen). s.given ++ ends.given) puts.rolled.seen
-        ∙ append_assoc (old.given ++ Now now ∷ []) (map Word words) ends.given
-        ∙ append_assoc old.given (Now now ∷ []) (map Word words ++ ends.given)
+          ∙ append_assoc (old.given ++ Now now ∷ []) (map Word words) ends.given
+          ∙ append_assoc old.given (Now now ∷ []) (map Word words ++ ends.given)
 
       pub served_put : says begun.types line 0 ≡ Ok (command.PutVal at_zero) → says begun.types line now ≡ Ok (command.PutVal lists)
           → HasServed begun (lines ++ line ∷ []) (text ++ reply_text reply.Success) new
       served_put zero is = record {
-          past = ends.past;
-          types = ends.types;
-          runs = ends.runs;
-          serves = subst (λ (given : List Given). ServesLines (opening_of begun) (says begun.types) (lines ++ line ∷ []) (registered begun.shelf []) given ends.past) (sym given_is)
+        past = ends.past;
+        types = ends.types;
+        runs = ends.runs;
+        serves = subst (λ (given : List Given). ServesLines (opening_of begun) (says begun.types) (lines ++ line ∷ []) (registered begun.shelf []) given ends.past) (sym given_is)
             (one_more h.serves (accepted zero is puts.rolled.many (works_on ends.runs.standing ends.works)));
-          written = let W : Result (List Offered) Stopping → Type 0 = λ reply. Written (says begun.types) (lines ++ line ∷ []) ends.past (text ++ reply_to (entry.Accept 0 lists words now reply)) in
+        written = let W : Result (List Offered) Stopping → Type 0 = λ reply. Written (says begun.types) (lines ++ line ∷ []) ends.past (text ++ reply_to (entry.Accept 0 lists words now reply)) in
             subst W (accepted_ok lists h.runs.standing) (written_more _ lines line h.past ends.past text _ h.written (accepted_writes _ line h.past ends.past at_zero lists words now (accept_answer h.past lists) ends.given zero ends.works));
-          gave = ends.gave;
-        }
+        gave = ends.gave;
+      }
 
 -- the meaning with the types of a run's beginning
 along_types : (types begun : List DataSet) (now : ℕ) (bytes : List ℕ) (said : Said) → types ≡ begun → meaning types now INTERVAL bytes ≡ said → meaning begun now INTERVAL bytes ≡ said
@@ -167,14 +160,14 @@ module _ (old at_moment : Seen) (now : ℕ) (at : IfSome old.pairs.clock (λ pai
       → ListsFit at_moment.types said → Obeys said answer at_moment new → Serves (Some bytes) (reply_text answer) old new
   serves_command bytes said answer new not is fit o begun lines text h =
       obeyed begun lines text old h bytes now at said answer new not (along_types at_moment.types begun.types now bytes (Ok said) (same_types ∙ h.types) is)
-        (let F : List DataSet → Type 0 = λ types. ListsFit types said in subst F same_types fit)
-        (let O : Seen → Type 0 = λ s. Obeys said answer s new in subst O then o)
+      (let F : List DataSet → Type 0 = λ types. ListsFit types said in subst F same_types fit)
+      (let O : Seen → Type 0 = λ s. Obeys said answer s new in subst O then o)
 
   pub serves_fault : (bytes : List ℕ) (fault : LineFault) → meaning at_moment.types now INTERVAL bytes ≡ Err fault → Serves (Some bytes) (reply_text (reply.Fault fault)) old at_moment
   serves_fault bytes fault is begun lines text h =
       let S : Seen → Type 0 = λ s. HasServed begun (lines ++ Some bytes ∷ []) (text ++ reply_text (reply.Fault fault)) s in
       subst S (sym then) (served_refused begun lines text old h (Some bytes) now at fault
-        (same_fault begun.types now INTERVAL 0 INTERVAL bytes fault (along_types at_moment.types begun.types now bytes (Err fault) (same_types ∙ h.types) is)))
+      (same_fault begun.types now INTERVAL 0 INTERVAL bytes fault (along_types at_moment.types begun.types now bytes (Err fault) (same_types ∙ h.types) is)))
 
   pub serves_too_long : Serves None (reply_text (reply.Fault faults.LineTooLong)) old at_moment
   serves_too_long begun lines text h =

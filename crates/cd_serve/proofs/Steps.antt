@@ -1,7 +1,7 @@
 -- The steps of a daemon with at most one plug-in.
-use Rattle.std.proofs.Common.{◌≡◌, ◌≢◌, ◌+◌, ◌-◌, ◌<◌, ◌≤◌, ℕ, suc, Bool, true, false, not, ◌&&◌, ◌||◌, cond, List, [], ◌∷◌, ◌++◌, length, map, Option, None, Some, Ok, Err, IsTrue, nat_eq, nat_le, get_or, refl, sym, ap, ◌∙◌, subst, append_assoc, arith, length-append}
+use Rattle.std.proofs.Common.{◌≡◌, ◌+◌, ◌<◌, ℕ, Bool, true, false, not, ◌&&◌, cond, List, [], ◌∷◌, ◌++◌, length, map, Option, None, Some, Ok, IsTrue, nat_eq, nat_le, refl, sym, ap, ◌∙◌, subst, append_assoc, arith, length-append}
 use Rattle.std.proofs.lemmas.List.{append-nil}
-use Rattle.std.proofs.lemmas.Option.{slice_get-get_or, slice_get_past}
+use Rattle.std.proofs.lemmas.Option.{slice_get-get_or}
 use Rattle.std.proofs.Math.Seq.{get_or-append_seam}
 use Rattle.std.specs.List.{filter, find, list_all, slice_get}
 use Rattle.cd_value.specs.declared.data.ValueList.{ValueList}
@@ -10,20 +10,18 @@ use Rattle.cd_registry.specs.declared.calls.Answer.{Answer}
 use Rattle.cd_registry.specs.declared.calls.Call.{Call}
 use Rattle.cd_registry.specs.declared.calls.Call.TheVariants as calls
 use Rattle.cd_types.specs.Types.{fits}
-use Rattle.cd_history.specs.declared.entry.Entry.{Entry}
 use Rattle.cd_history.specs.declared.entry.Entry.TheVariants as entry
 use Rattle.cd_history.specs.declared.given.Given.{Given}
-use Rattle.cd_history.specs.declared.given.Given.TheVariants.{Now, Word, Answered}
-use Rattle.cd_history.specs.History.{History, ◌▸◌, handles, is_stopped, kept, kept_of}
-use Rattle.cd_history.specs.Registrations.{Registration, registrations, live, listening, is_closed, is_retired, is_plug, has_kind, WRITE}
+use Rattle.cd_history.specs.declared.given.Given.TheVariants.{Now, Answered}
+use Rattle.cd_history.specs.History.{History, ◌▸◌, handles, kept, kept_of}
+use Rattle.cd_history.specs.Registrations.{Registration, registrations, live, listening, is_closed, is_retired, is_plug, WRITE}
 use Rattle.cd_history.specs.Leases.{takes, answers_to, taken_by}
 use Rattle.cd_daemon.specs.declared.Opening.{Opening}
 use Rattle.cd_cache.specs.declared.entry.CacheEntry.{CacheEntry}
 use Rattle.cd_daemon.specs.Cached.{cache_after, stored}
-use Rattle.cd_daemon.specs.Calls.{calls_to, pending, next_list, sent_to, writes_of, Post}
-use Rattle.cd_daemon.specs.Answers.{accept_answer, handle_answer, query_answer, ready, is_ready, next_call, is_idle, unless_stopped}
-use Rattle.cd_daemon.specs.Legal.{IsLegal, Allowed}
-use Rattle.cd_transcript.specs.LineRuns.{Works, nothing, called, handled, WorksUntilIdle}
+use Rattle.cd_daemon.specs.Calls.{calls_to, pending, next_list, sent_to, writes_of}
+use Rattle.cd_daemon.specs.Answers.{accept_answer, handle_answer, query_answer, ready, is_ready, next_call, is_idle}
+use Rattle.cd_transcript.specs.LineRuns.{Works, called, handled, WorksUntilIdle}
 use Rattle.cd_serve.specs.Standing.{Standing, IsWriter}
 
 -- ---- lists
@@ -128,19 +126,19 @@ pub handles_unwritten : {K : Opening} {stopped : Bool} {regs : List Registration
     → Standing K stopped regs (v ∷ queue) cache P → listening WRITE P ≡ []
     → Standing K stopped regs queue (stored K (Some v) now cache) (P ▸ entry.Handle 0 now (handle_answer K P))
 handles_unwritten {K = K} {P = P} v queue now s nobody = record {
-      legal = (s.legal, (refl, one_queued v queue s));
-      is_so = s.is_so;
-      registers = s.registers;
-      unclosed = s.unclosed;
-      unretired = s.unretired;
-      home = s.home;
-      earlier = s.earlier ++ v ∷ [];
-      queued = s.queued ∙ sym (append_assoc s.earlier (v ∷ []) queue);
-      counted = ap (λ (n : ℕ). n + 1) s.counted ∙ one_more s.earlier v;
-      taken = λ r. s.taken r ∙ ap length (sym (calls_to-unwritten K P now nobody r));
-      answered = λ r. s.answered r ∙ ap length (sym (calls_to-unwritten K P now nobody r));
-      caches = stored_next v queue now s;
-    }
+  legal = (s.legal, (refl, one_queued v queue s));
+  is_so = s.is_so;
+  registers = s.registers;
+  unclosed = s.unclosed;
+  unretired = s.unretired;
+  home = s.home;
+  earlier = s.earlier ++ v ∷ [];
+  queued = s.queued ∙ sym (append_assoc s.earlier (v ∷ []) queue);
+  counted = ap (λ (n : ℕ). n + 1) s.counted ∙ one_more s.earlier v;
+  taken = λ r. s.taken r ∙ ap length (sym (calls_to-unwritten K P now nobody r));
+  answered = λ r. s.answered r ∙ ap length (sym (calls_to-unwritten K P now nobody r));
+  caches = stored_next v queue now s;
+}
 
 -- all registrations are live
 pub live-is : {K : Opening} {stopped : Bool} {regs : List Registration} {queue : List ValueList} {cache : List CacheEntry} {P : History} → Standing K stopped regs queue cache P → live P ≡ regs
@@ -217,19 +215,19 @@ module _ (K : Opening) (stopped : Bool) (g : Registration) (P : History) (v : Va
 
   pub handles_written : Standing K stopped (g ∷ []) (v ∷ queue) cache P → IsWriter g → Standing K stopped (g ∷ []) queue (stored K (Some v) now cache) after_done
   handles_written s w = record {
-        legal = (((s.legal, (refl, one_queued v queue s)), (ready_then s w, next_then s w)), rw (same_number g.number) refl);
-        is_so = s.is_so;
-        registers = s.registers;
-        unclosed = s.unclosed;
-        unretired = s.unretired;
-        home = λ r. at_home (nat_eq g.number r) (taken_by r P) (s.home r);
-        earlier = s.earlier ++ v ∷ [];
-        queued = s.queued ∙ sym (append_assoc s.earlier (v ∷ []) queue);
-        counted = ap (λ (n : ℕ). n + 1) s.counted ∙ one_more s.earlier v;
-        taken = λ r. one_more_taken (nat_eq g.number r) (takes r P) (calls_to r P) (s.taken r) ∙ ap length (sym (calls_to-after_done s w r));
-        answered = λ r. one_more_answered (nat_eq g.number r) (answers_to r P) (calls_to r P) (s.answered r) ∙ ap length (sym (calls_to-after_done s w r));
-        caches = stored_next v queue now s;
-      }
+    legal = (((s.legal, (refl, one_queued v queue s)), (ready_then s w, next_then s w)), rw (same_number g.number) refl);
+    is_so = s.is_so;
+    registers = s.registers;
+    unclosed = s.unclosed;
+    unretired = s.unretired;
+    home = λ r. at_home (nat_eq g.number r) (taken_by r P) (s.home r);
+    earlier = s.earlier ++ v ∷ [];
+    queued = s.queued ∙ sym (append_assoc s.earlier (v ∷ []) queue);
+    counted = ap (λ (n : ℕ). n + 1) s.counted ∙ one_more s.earlier v;
+    taken = λ r. one_more_taken (nat_eq g.number r) (takes r P) (calls_to r P) (s.taken r) ∙ ap length (sym (calls_to-after_done s w r));
+    answered = λ r. one_more_answered (nat_eq g.number r) (answers_to r P) (calls_to r P) (s.answered r) ∙ ap length (sym (calls_to-after_done s w r));
+    caches = stored_next v queue now s;
+  }
 
   pub works_written : {O : History} {given : List Given} → Standing K stopped (g ∷ []) (v ∷ queue) cache P → IsWriter g → Works K O given P
       → Works K O ((given ++ Now now ∷ []) ++ Answered answer ∷ []) after_done
@@ -240,16 +238,16 @@ module _ (K : Opening) (stopped : Bool) (g : Registration) (P : History) (v : Va
 pub asks : {K : Opening} {stopped : Bool} {regs : List Registration} {queue : List ValueList} {cache : List CacheEntry} {P : History} (name : Option (List ℕ))
     → Standing K stopped regs queue cache P → Standing K stopped regs queue cache (P ▸ entry.Query 0 name (query_answer K P name))
 asks {P = P} name s = record {
-    legal = (s.legal, refl);
-    is_so = s.is_so;
-    registers = s.registers;
-    unclosed = s.unclosed;
-    unretired = s.unretired;
-    home = s.home;
-    earlier = s.earlier;
-    queued = s.queued;
-    counted = s.counted;
-    taken = λ r. s.taken r ∙ ap length (sym (quiet (calls_to r P)));
-    answered = λ r. s.answered r ∙ ap length (sym (quiet (calls_to r P)));
-    caches = s.caches;
-  }
+  legal = (s.legal, refl);
+  is_so = s.is_so;
+  registers = s.registers;
+  unclosed = s.unclosed;
+  unretired = s.unretired;
+  home = s.home;
+  earlier = s.earlier;
+  queued = s.queued;
+  counted = s.counted;
+  taken = λ r. s.taken r ∙ ap length (sym (quiet (calls_to r P)));
+  answered = λ r. s.answered r ∙ ap length (sym (quiet (calls_to r P)));
+  caches = s.caches;
+}

@@ -1,8 +1,8 @@
 -- What a link tells while lines are served on it.
 use Rattle.std.specs.Prelude.{◌≡◌, ◌≤◌, ◌<◌, ◌⊎◌, ℕ, List, [], ◌++◌, length, take, map, Option, IfSome}
 use Rattle.cd_io.specs.Causes.{Rose}
-use Rattle.cd_io.specs.Told.{Stays, Grows, Loses}
-use Rattle.cd_sock.specs.Lines.{Cut, Given, cut, cut_lines, whole_lines, lines}
+use Rattle.cd_io.specs.Told.{Grows, Loses}
+use Rattle.cd_sock.specs.Lines.{Cut, Given, cut, cut_lines, whole_lines}
 use Rattle.cd_serve.specs.declared.end.End.{End}
 use Rattle.cd_serve.specs.declared.end.End.TheVariants as ends
 use Rattle.cd_serve.specs.declared.stream.Stopped.{Stopped}

@@ -1,5 +1,5 @@
 -- Plug-ins on a shelf, by what they tell.
-use Rattle.std.specs.Prelude.{ℕ, List, [], map}
+use Rattle.std.specs.Prelude.{ℕ, List, map}
 use Rattle.cd_registry.specs.declared.kinds.Kinds.{Kinds}
 use Rattle.cd_registry.specs.declared.plug.PlugTells.{PlugTells}
 use Rattle.cd_transcript.specs.LineRuns.{OnShelf}

@@ -1,5 +1,5 @@
 -- A daemon whose objects are all at home, and for which no call waits.
-use Rattle.std.specs.Prelude.{◌≡◌, ◌⊎◌, ℕ, Bool, true, false, List, [], ◌∷◌, ◌++◌, length, Option, None}
+use Rattle.std.specs.Prelude.{◌≡◌, ◌⊎◌, ℕ, Bool, true, false, List, [], ◌∷◌, ◌++◌, length, None}
 use Rattle.std.specs.List.{filter}
 use Rattle.cd_value.specs.declared.data.ValueList.{ValueList}
 use Rattle.cd_registry.specs.declared.calls.Answer.{Answer}

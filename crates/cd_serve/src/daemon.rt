@@ -23,8 +23,8 @@ use cd_cache::{Cache, CacheEntry};
 use cd_history::{Given, Givens};
 use cd_io::{Clock, Dice};
 use cd_registry::{Answer, Call, Plug};
-use cd_types::TypesDb;
 use cd_sock::{Command, Line, LineFault, Reply, is_blank_line, print_reply};
+use cd_types::TypesDb;
 use cd_value::{DataSource, Lists, Memory, Names, Text, TryCopy, ValueList};
 use std::alloc::Global;
 
@@ -50,7 +50,7 @@ impl<C: Clock, D: Dice, P: Plug> Daemon<C, D, P> {
         ensures ok { IfOk result (λ now.
             (IfSome (C.clock_pair self.old.clock) (λ pair. now ≡ pair.0))
             × (seen_of C.clock_pair D.dice_pair P.plug_tells self.new
-                ≡ with_moment now (seen_of C.clock_pair D.dice_pair P.plug_tells self.old))) }
+            ≡ with_moment now (seen_of C.clock_pair D.dice_pair P.plug_tells self.old))) }
         ensures back { places (on_shelf P.plug_tells self.new.plugs.items) ≡ places (on_shelf P.plug_tells self.old.plugs.items) }
     {
         let now = self.clock.now();
@@ -63,7 +63,7 @@ impl<C: Clock, D: Dice, P: Plug> Daemon<C, D, P> {
         ensures ok { OnOk result ((word : ℕ)
             × (IfSome (D.dice_pair self.old.dice) (λ pair. word ≡ pair.0))
             × (seen_of C.clock_pair D.dice_pair P.plug_tells self.new
-                ≡ with_word word (seen_of C.clock_pair D.dice_pair P.plug_tells self.old))) }
+            ≡ with_word word (seen_of C.clock_pair D.dice_pair P.plug_tells self.old))) }
         ensures back { places (on_shelf P.plug_tells self.new.plugs.items) ≡ places (on_shelf P.plug_tells self.old.plugs.items) }
     {
         let word = self.dice.word();

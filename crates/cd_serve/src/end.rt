@@ -39,7 +39,10 @@ pub fn text_of(alloc: Global, end: &End) -> Result<Text, Memory>
 {
     match end {
         End::Done => Ok(Text::new(alloc)),
-        End::Usage => Text::of(alloc, "collectd: usage: collectd [-f] [-C file] [-t, -T, --lines or --load N]\n"),
+        End::Usage => Text::of(
+            alloc,
+            "collectd: usage: collectd [-f] [-C file] [-t, -T, --lines or --load N]\n",
+        ),
         End::LinkFault => Text::of(alloc, "collectd: link failed\n"),
         End::InputTooLong => Text::of(alloc, "collectd: input too long\n"),
         End::Memory => Text::of(alloc, "collectd: out of memory\n"),

@@ -75,18 +75,18 @@ fn serve_line<L: Link, C: Clock, D: Dice, P: Plug>(
 ) -> Result<(), Stopped>
     ensures ok { OnOk result ((reply : List ℕ)
         × (Serves (content line.now) reply
-            (seen_of C.clock_pair D.dice_pair P.plug_tells daemon.old)
-            (seen_of C.clock_pair D.dice_pair P.plug_tells daemon.new))
+        (seen_of C.clock_pair D.dice_pair P.plug_tells daemon.old)
+        (seen_of C.clock_pair D.dice_pair P.plug_tells daemon.new))
         × (Spoke [] reply
-            (link_tells L.link_given L.link_left L.link_said L.link_faults L.link_quiets link.old)
-            (link_tells L.link_given L.link_left L.link_said L.link_faults L.link_quiets link.new))) }
+        (link_tells L.link_given L.link_left L.link_said L.link_faults L.link_quiets link.old)
+        (link_tells L.link_given L.link_left L.link_said L.link_faults L.link_quiets link.new))) }
     ensures broken { result ≡ Err Stopped.Link → (reply : List ℕ)
         × (Serves (content line.now) reply
-            (seen_of C.clock_pair D.dice_pair P.plug_tells daemon.old)
-            (seen_of C.clock_pair D.dice_pair P.plug_tells daemon.new))
+        (seen_of C.clock_pair D.dice_pair P.plug_tells daemon.old)
+        (seen_of C.clock_pair D.dice_pair P.plug_tells daemon.new))
         × (SaidInPart reply
-            (link_tells L.link_given L.link_left L.link_said L.link_faults L.link_quiets link.old)
-            (link_tells L.link_given L.link_left L.link_said L.link_faults L.link_quiets link.new)) }
+        (link_tells L.link_given L.link_left L.link_said L.link_faults L.link_quiets link.old)
+        (link_tells L.link_given L.link_left L.link_said L.link_faults L.link_quiets link.new)) }
     ensures back { places (on_shelf P.plug_tells daemon.new.plugs.items) ≡ places (on_shelf P.plug_tells daemon.old.plugs.items) }
 {
     let reply = daemon.serve(alloc, line)?;
@@ -106,21 +106,21 @@ fn serve_front<L: Link, C: Clock, D: Dice, P: Plug>(
     ensures used { IfOk result (λ used. (used ≤ length piece.now) × (0 < length piece.now → 0 < used)) }
     ensures ok { IfOk result (λ used. (begun : Seen) (first : LinkTells) (cut_off beyond : List ℕ)
         → InSession begun first
-            (link_tells L.link_given L.link_left L.link_said L.link_faults L.link_quiets link.old)
-            cut_off piece.now beyond cutter.old.held.items
-            (seen_of C.clock_pair D.dice_pair P.plug_tells daemon.old)
+        (link_tells L.link_given L.link_left L.link_said L.link_faults L.link_quiets link.old)
+        cut_off piece.now beyond cutter.old.held.items
+        (seen_of C.clock_pair D.dice_pair P.plug_tells daemon.old)
         → InSession begun first
-            (link_tells L.link_given L.link_left L.link_said L.link_faults L.link_quiets link.new)
-            (cut_off ++ take used piece.now) (drop used piece.now) beyond cutter.new.held.items
-            (seen_of C.clock_pair D.dice_pair P.plug_tells daemon.new)) }
+        (link_tells L.link_given L.link_left L.link_said L.link_faults L.link_quiets link.new)
+        (cut_off ++ take used piece.now) (drop used piece.now) beyond cutter.new.held.items
+        (seen_of C.clock_pair D.dice_pair P.plug_tells daemon.new)) }
     ensures broken { result ≡ Err Stopped.Link → (begun : Seen) (first : LinkTells) (cut_off beyond : List ℕ)
         → InSession begun first
-            (link_tells L.link_given L.link_left L.link_said L.link_faults L.link_quiets link.old)
-            cut_off piece.now beyond cutter.old.held.items
-            (seen_of C.clock_pair D.dice_pair P.plug_tells daemon.old)
+        (link_tells L.link_given L.link_left L.link_said L.link_faults L.link_quiets link.old)
+        cut_off piece.now beyond cutter.old.held.items
+        (seen_of C.clock_pair D.dice_pair P.plug_tells daemon.old)
         → Broken begun first
-            (link_tells L.link_given L.link_left L.link_said L.link_faults L.link_quiets link.new)
-            (seen_of C.clock_pair D.dice_pair P.plug_tells daemon.new) }
+        (link_tells L.link_given L.link_left L.link_said L.link_faults L.link_quiets link.new)
+        (seen_of C.clock_pair D.dice_pair P.plug_tells daemon.new) }
     ensures back { places (on_shelf P.plug_tells daemon.new.plugs.items) ≡ places (on_shelf P.plug_tells daemon.old.plugs.items) }
 {
     let (used, line) = cutter.take(alloc, piece)?;
@@ -143,21 +143,21 @@ fn serve_piece<L: Link, C: Clock, D: Dice, P: Plug>(
 ) -> Result<(), Stopped>
     ensures ok { OnOk result ((begun : Seen) (first : LinkTells) (cut_off beyond : List ℕ)
         → InSession begun first
-            (link_tells L.link_given L.link_left L.link_said L.link_faults L.link_quiets link.old)
-            cut_off piece.now beyond cutter.old.held.items
-            (seen_of C.clock_pair D.dice_pair P.plug_tells daemon.old)
+        (link_tells L.link_given L.link_left L.link_said L.link_faults L.link_quiets link.old)
+        cut_off piece.now beyond cutter.old.held.items
+        (seen_of C.clock_pair D.dice_pair P.plug_tells daemon.old)
         → InSession begun first
-            (link_tells L.link_given L.link_left L.link_said L.link_faults L.link_quiets link.new)
-            (cut_off ++ piece.now) [] beyond cutter.new.held.items
-            (seen_of C.clock_pair D.dice_pair P.plug_tells daemon.new)) }
+        (link_tells L.link_given L.link_left L.link_said L.link_faults L.link_quiets link.new)
+        (cut_off ++ piece.now) [] beyond cutter.new.held.items
+        (seen_of C.clock_pair D.dice_pair P.plug_tells daemon.new)) }
     ensures broken { result ≡ Err Stopped.Link → (begun : Seen) (first : LinkTells) (cut_off beyond : List ℕ)
         → InSession begun first
-            (link_tells L.link_given L.link_left L.link_said L.link_faults L.link_quiets link.old)
-            cut_off piece.now beyond cutter.old.held.items
-            (seen_of C.clock_pair D.dice_pair P.plug_tells daemon.old)
+        (link_tells L.link_given L.link_left L.link_said L.link_faults L.link_quiets link.old)
+        cut_off piece.now beyond cutter.old.held.items
+        (seen_of C.clock_pair D.dice_pair P.plug_tells daemon.old)
         → Broken begun first
-            (link_tells L.link_given L.link_left L.link_said L.link_faults L.link_quiets link.new)
-            (seen_of C.clock_pair D.dice_pair P.plug_tells daemon.new) }
+        (link_tells L.link_given L.link_left L.link_said L.link_faults L.link_quiets link.new)
+        (seen_of C.clock_pair D.dice_pair P.plug_tells daemon.new) }
     ensures back { places (on_shelf P.plug_tells daemon.new.plugs.items) ≡ places (on_shelf P.plug_tells daemon.old.plugs.items) }
 {
     let mut rest = piece;
@@ -177,24 +177,24 @@ fn serve_last<L: Link, C: Clock, D: Dice, P: Plug>(
 ) -> Result<(), Stopped>
     ensures ok { OnOk result ((begun : Seen) (first : LinkTells) (heard : List ℕ)
         → InSession begun first
-            (link_tells L.link_given L.link_left L.link_said L.link_faults L.link_quiets link.old)
-            heard [] [] cutter.old.held.items
-            (seen_of C.clock_pair D.dice_pair P.plug_tells daemon.old)
+        (link_tells L.link_given L.link_left L.link_said L.link_faults L.link_quiets link.old)
+        heard [] [] cutter.old.held.items
+        (seen_of C.clock_pair D.dice_pair P.plug_tells daemon.old)
         → (text : List ℕ)
         × (HasServed begun (cut_lines heard) text (seen_of C.clock_pair D.dice_pair P.plug_tells daemon.new))
         × (Spoke heard text first
-            (link_tells L.link_given L.link_left L.link_said L.link_faults L.link_quiets link.new))) }
+        (link_tells L.link_given L.link_left L.link_said L.link_faults L.link_quiets link.new))) }
     ensures spoke { OnOk result ((reply : List ℕ) × (Spoke [] reply
-            (link_tells L.link_given L.link_left L.link_said L.link_faults L.link_quiets link.old)
-            (link_tells L.link_given L.link_left L.link_said L.link_faults L.link_quiets link.new))) }
+        (link_tells L.link_given L.link_left L.link_said L.link_faults L.link_quiets link.old)
+        (link_tells L.link_given L.link_left L.link_said L.link_faults L.link_quiets link.new))) }
     ensures broken { result ≡ Err Stopped.Link → (begun : Seen) (first : LinkTells) (heard : List ℕ)
         → InSession begun first
-            (link_tells L.link_given L.link_left L.link_said L.link_faults L.link_quiets link.old)
-            heard [] [] cutter.old.held.items
-            (seen_of C.clock_pair D.dice_pair P.plug_tells daemon.old)
+        (link_tells L.link_given L.link_left L.link_said L.link_faults L.link_quiets link.old)
+        heard [] [] cutter.old.held.items
+        (seen_of C.clock_pair D.dice_pair P.plug_tells daemon.old)
         → Broken begun first
-            (link_tells L.link_given L.link_left L.link_said L.link_faults L.link_quiets link.new)
-            (seen_of C.clock_pair D.dice_pair P.plug_tells daemon.new) }
+        (link_tells L.link_given L.link_left L.link_said L.link_faults L.link_quiets link.new)
+        (seen_of C.clock_pair D.dice_pair P.plug_tells daemon.new) }
     ensures back { places (on_shelf P.plug_tells daemon.new.plugs.items) ≡ places (on_shelf P.plug_tells daemon.old.plugs.items) }
 {
     match cutter.finish(alloc) {
@@ -214,12 +214,12 @@ fn finish<L: Link, C: Clock, D: Dice, P: Plug>(
         → length heard ≤ LIMIT
         → (IfSome (L.link_left link.old) (λ bytes. bytes ≡ [])) ⊎ (Rose first.quiets (L.link_quiets link.old))
         → InSession begun first
-            (link_tells L.link_given L.link_left L.link_said L.link_faults L.link_quiets link.old)
-            heard [] [] cutter.old.held.items
-            (seen_of C.clock_pair D.dice_pair P.plug_tells daemon.old)
+        (link_tells L.link_given L.link_left L.link_said L.link_faults L.link_quiets link.old)
+        heard [] [] cutter.old.held.items
+        (seen_of C.clock_pair D.dice_pair P.plug_tells daemon.old)
         → Ended result begun first
-            (link_tells L.link_given L.link_left L.link_said L.link_faults L.link_quiets link.new)
-            (seen_of C.clock_pair D.dice_pair P.plug_tells daemon.new) }
+        (link_tells L.link_given L.link_left L.link_said L.link_faults L.link_quiets link.new)
+        (seen_of C.clock_pair D.dice_pair P.plug_tells daemon.new) }
     ensures back { places (on_shelf P.plug_tells daemon.new.plugs.items) ≡ places (on_shelf P.plug_tells daemon.old.plugs.items) }
 {
     match serve_last(alloc, link, daemon, cutter) {
@@ -246,9 +246,9 @@ pub fn serve_input<L: Link, C: Clock, D: Dice, P: Plug>(
 ) -> End
     ensures ended { (begun : Seen) → HasServed begun [] [] (seen_of C.clock_pair D.dice_pair P.plug_tells daemon.old)
         → Ended result begun
-            (link_tells L.link_given L.link_left L.link_said L.link_faults L.link_quiets link.old)
-            (link_tells L.link_given L.link_left L.link_said L.link_faults L.link_quiets link.new)
-            (seen_of C.clock_pair D.dice_pair P.plug_tells daemon.new) }
+        (link_tells L.link_given L.link_left L.link_said L.link_faults L.link_quiets link.old)
+        (link_tells L.link_given L.link_left L.link_said L.link_faults L.link_quiets link.new)
+        (seen_of C.clock_pair D.dice_pair P.plug_tells daemon.new) }
     ensures back { places (on_shelf P.plug_tells daemon.new.plugs.items) ≡ places (on_shelf P.plug_tells daemon.old.plugs.items) }
 {
     match buffer(alloc) {
@@ -274,9 +274,9 @@ fn serve_pieces<L: Link, C: Clock, D: Dice, P: Plug>(
     requires { 0 < length buffer.old }
     ensures ended { (begun : Seen) → HasServed begun [] [] (seen_of C.clock_pair D.dice_pair P.plug_tells daemon.old)
         → Ended result begun
-            (link_tells L.link_given L.link_left L.link_said L.link_faults L.link_quiets link.old)
-            (link_tells L.link_given L.link_left L.link_said L.link_faults L.link_quiets link.new)
-            (seen_of C.clock_pair D.dice_pair P.plug_tells daemon.new) }
+        (link_tells L.link_given L.link_left L.link_said L.link_faults L.link_quiets link.old)
+        (link_tells L.link_given L.link_left L.link_said L.link_faults L.link_quiets link.new)
+        (seen_of C.clock_pair D.dice_pair P.plug_tells daemon.new) }
     ensures back { places (on_shelf P.plug_tells daemon.new.plugs.items) ≡ places (on_shelf P.plug_tells daemon.old.plugs.items) }
 {
     let mut cutter = LineCutter::new(alloc);
@@ -285,9 +285,13 @@ fn serve_pieces<L: Link, C: Clock, D: Dice, P: Plug>(
         match link.hear(buffer) {
             Ok(Heard::Got(count)) => {
                 let few = count.min(room);
-                if let Err(stopped) =
-                    serve_piece(alloc, link, daemon, &mut cutter, &buffer[..few])
-                {
+                if let Err(stopped) = serve_piece(
+                    alloc,
+                    link,
+                    daemon,
+                    &mut cutter,
+                    &buffer[..few],
+                ) {
                     return end_of(stopped);
                 }
                 if few < count {

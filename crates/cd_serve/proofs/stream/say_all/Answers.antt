@@ -1,4 +1,4 @@
-use Rattle.std.proofs.Common.{◌++◌, [], refl, sym, ◌∙◌, take}
+use Rattle.std.proofs.Common.{◌++◌, [], refl, sym, take}
 use Rattle.cd_serve.specs.Sessions.{LinkTells, link_tells}
 use Rattle.cd_serve.proofs.Speaking.{spoke_nothing, spoke_then, spoke_said, said_before, said_more, all_said, on_err}
 use Rattle.cd_serve.proofs.stream.say_all.Goals as goal

@@ -1,4 +1,4 @@
-use Rattle.std.proofs.Common.{Err, ap, sym}
+use Rattle.std.proofs.Common.{Err, ap}
 use Rattle.std.specs.Option.{option_map}
 use Rattle.cd_sock.specs.Lines.{content}
 use Rattle.cd_serve.proofs.Speaking.{same_err}

@@ -1,5 +1,4 @@
-use Rattle.std.proofs.Common.{◌≡◌, ◌++◌, List, []}
-use Rattle.cd_value.specs.declared.data.ValueList.{ValueList}
+use Rattle.std.proofs.Common.{◌≡◌, List}
 use Rattle.cd_history.specs.declared.given.Given.{Given}
 use Rattle.cd_history.specs.History.{History}
 use Rattle.cd_serve.specs.Shelf.{on_shelf, places}
