@@ -1,3 +1,4 @@
 pub mod Ticks
 pub mod Family
 pub mod Counts
+pub mod Towers
