@@ -82,12 +82,12 @@ pub fn ring_twice<R: Threads + Wait + Sync, B: Bell + Send>(
         || -> Pass<Tower<B>, Tick>
             requires { IsSync R.row × IsPassOf tick_by shared.now pass }
             ensures pass { IsPassOf tick_by shared.entry.now result }
-            ensures same { (actor_of result ≡ actor_of pass.entry) × (out_of result ≡ out_of pass.entry) }
+            ensures same { (actor_of result ≡ actor_of pass) × (out_of result ≡ out_of pass) }
         { ring_once(rt, shared, pass) },
         || -> Pass<Tower<B>, Tick>
             requires { IsSync R.row × IsPassOf tick_by shared.now child }
             ensures pass { IsPassOf tick_by shared.entry.now result }
-            ensures same { (parent_of result ≡ parent_of child.entry) × (out_of result ≡ out_of child.entry) }
+            ensures same { (parent_of result ≡ parent_of child) × (out_of result ≡ out_of child) }
         { ring_once(rt, shared, child) },
     );
     turn.join(&mut pass, child);
