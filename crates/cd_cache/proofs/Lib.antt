@@ -1,0 +1,4 @@
+pub mod Distinct
+pub mod Places
+pub mod RowOrder
+pub mod Ties

@@ -2,7 +2,7 @@
 use Rattle.std.proofs.Common.{◌≡◌, ℕ, Bool, true, false, not, ◌||◌, ◌&&◌, ◌≤◌, List, length, refl}
 use Rattle.std.specs.Prelude.{nat_le, nat_lt}
 use Rattle.std.specs.List.{list_any, list_all, after_first}
-use Rattle.std.proofs.lemmas.Bool.{or_parts, and_parts, not-false, ltb-false, le-leb, leb-true}
+use Rattle.std.proofs.lemmas.Bool.{or_parts, and_parts, not-true, not-false, ltb-false, le-leb, leb-true}
 use Rattle.cd_value.specs.Identifier.{Fields, is_control, is_slash, is_empty, is_type_byte, is_field, is_identifier, plugin_part, type_part, fields_of, has_bad_field, has_long_field}
 use Rattle.cd_value.proofs.Cuts.{list_any_take, list_any_drop, list_any_before_first}
 
@@ -10,15 +10,15 @@ short : (bytes : List ℕ) → nat_lt 127 (length bytes) ≡ false → nat_le (l
 short bytes e = le-leb (length bytes) 127 (ltb-false 127 (length bytes) e)
 
 -- no field has a control character, and none of the first three has a slash
-record IsPlain (id : Fields) : Type 0 where
-  host_control : list_any is_control id.host ≡ false
-  plugin_control : list_any is_control id.plugin ≡ false
-  plugin_instance_control : list_any is_control id.plugin_instance ≡ false
-  type_control : list_any is_control id.type_name ≡ false
-  type_instance_control : list_any is_control id.type_instance ≡ false
-  host_slash : list_any is_slash id.host ≡ false
-  plugin_slash : list_any is_slash id.plugin ≡ false
-  plugin_instance_slash : list_any is_slash id.plugin_instance ≡ false
+pub record IsPlain (id : Fields) : Type 0 where
+  pub host_control : list_any is_control id.host ≡ false
+  pub plugin_control : list_any is_control id.plugin ≡ false
+  pub plugin_instance_control : list_any is_control id.plugin_instance ≡ false
+  pub type_control : list_any is_control id.type_name ≡ false
+  pub type_instance_control : list_any is_control id.type_instance ≡ false
+  pub host_slash : list_any is_slash id.host ≡ false
+  pub plugin_slash : list_any is_slash id.plugin ≡ false
+  pub plugin_instance_slash : list_any is_slash id.plugin_instance ≡ false
 
 fields_make : (id : Fields) → IsPlain id → has_bad_field id ≡ false → has_long_field id ≡ false → is_identifier id ≡ true
 fields_make id plain bad long =
@@ -91,3 +91,44 @@ field_lengths id h =
     let third = and_parts _ (is_field id.plugin_instance) fourth.0 in
     let second = and_parts (is_field id.host) (is_field id.plugin) third.0 in
     (field_length id.host second.0, field_length id.plugin second.1, field_length id.plugin_instance third.1, field_length id.type_name fourth.1, field_length id.type_instance fifth.1)
+
+field_plain : (bytes : List ℕ) → is_field bytes ≡ true → list_any is_control bytes ≡ false
+field_plain bytes h = not-true (list_any is_control bytes) (and_parts (not (list_any is_control bytes)) (nat_le (length bytes) 127) h).0
+
+-- what the fields of an identifier are
+pub record IsWhole (id : Fields) : Type 0 where
+  pub plain : IsPlain id
+  pub host : is_empty id.host ≡ false
+  pub plugin : is_empty id.plugin ≡ false
+  pub type_name : is_empty id.type_name ≡ false
+  pub type_bytes : list_all is_type_byte id.type_name ≡ true
+
+pub whole : (id : Fields) → is_identifier id ≡ true → IsWhole id
+whole id h =
+    let eleventh = and_parts _ (list_all is_type_byte id.type_name) h in
+    let tenth = and_parts _ (not (list_any is_slash id.plugin_instance)) eleventh.0 in
+    let ninth = and_parts _ (not (list_any is_slash id.plugin)) tenth.0 in
+    let eighth = and_parts _ (not (list_any is_slash id.host)) ninth.0 in
+    let seventh = and_parts _ (not (is_empty id.type_name)) eighth.0 in
+    let sixth = and_parts _ (not (is_empty id.plugin)) seventh.0 in
+    let fields = and_parts (first_five id) (not (is_empty id.host)) sixth.0 in
+    let fifth = and_parts _ (is_field id.type_instance) fields.0 in
+    let fourth = and_parts _ (is_field id.type_name) fifth.0 in
+    let third = and_parts _ (is_field id.plugin_instance) fourth.0 in
+    let second = and_parts (is_field id.host) (is_field id.plugin) third.0 in
+    record {
+      plain = record {
+        host_control = field_plain id.host second.0;
+        plugin_control = field_plain id.plugin second.1;
+        plugin_instance_control = field_plain id.plugin_instance third.1;
+        type_control = field_plain id.type_name fourth.1;
+        type_instance_control = field_plain id.type_instance fifth.1;
+        host_slash = not-true (list_any is_slash id.host) eighth.1;
+        plugin_slash = not-true (list_any is_slash id.plugin) ninth.1;
+        plugin_instance_slash = not-true (list_any is_slash id.plugin_instance) tenth.1;
+      };
+      host = not-true (is_empty id.host) fields.1;
+      plugin = not-true (is_empty id.plugin) sixth.1;
+      type_name = not-true (is_empty id.type_name) seventh.1;
+      type_bytes = eleventh.1;
+    }

@@ -1,7 +1,8 @@
 -- Texts made fit to be fields of an identifier.
-use Rattle.std.specs.Prelude.{ℕ, Bool, ◌&&◌, ◌||◌, List, length, take, map, nat_le, if◌then◌else◌}
+use Rattle.std.specs.Prelude.{ℕ, Bool, not, ◌&&◌, ◌||◌, List, length, take, map, nat_le, if◌then◌else◌}
+use Rattle.std.specs.List.{list_any}
 use Rattle.std.specs.Fmt.Cut.{floor_char_boundary}
-use Rattle.cd_value.specs.Identifier.{is_control, is_empty, is_slash}
+use Rattle.cd_value.specs.Identifier.{is_control, is_empty, is_field, is_slash}
 
 -- the longest front of a text that has at most so many bytes and ends where a character does
 abbrev pub longest_front : ℕ → List ℕ → List ℕ
@@ -14,6 +15,10 @@ clean_byte slash byte = if is_control byte || (slash && is_slash byte) then 95 e
 -- a text with such characters replaced, cut to the length of a field
 abbrev pub clean_field : Bool → List ℕ → List ℕ
 clean_field slash text = longest_front 127 (map (clean_byte slash) text)
+
+-- a text may stand as it is
+abbrev pub is_clean : Bool → Bool → List ℕ → Bool
+is_clean slash needed text = is_field text && not (slash && list_any is_slash text) && not (needed && is_empty text)
 
 -- the old field stands where the new one would be empty and may not be
 abbrev pub field_or_old : Bool → List ℕ → List ℕ → List ℕ

@@ -74,6 +74,10 @@ has_long_field id =
     nat_lt 127 (length id.host) || nat_lt 127 (length id.plugin) || nat_lt 127 (length id.plugin_instance)
     || nat_lt 127 (length id.type_name) || nat_lt 127 (length id.type_instance)
 
+-- a text would be an identifier, but for a field of more than 127 bytes
+abbrev pub is_long_text : List ℕ → Bool
+is_long_text text = not (is_bad_text text) && has_long_field (fields_of text)
+
 -- the identifier that a text is, or why it is none
 abbrev pub read_identifier : List ℕ → Result Fields IdFault
 read_identifier text =
@@ -88,3 +92,19 @@ dashed (byte ∷ bytes) = 45 ∷ byte ∷ bytes
 -- the printed identifier, `host/plugin[-instance]/type[-instance]`
 abbrev pub name_of : Fields → List ℕ
 name_of id = id.host ++ 47 ∷ [] ++ id.plugin ++ dashed id.plugin_instance ++ 47 ∷ [] ++ id.type_name ++ dashed id.type_instance
+
+-- an identifier as its name shows it: what stands behind a first dash in the plugin moves to the plugin instance
+abbrev pub as_named : Fields → Fields
+as_named id = record {
+  host = id.host;
+  plugin = before_first is_dash id.plugin;
+  plugin_instance = after_first is_dash (id.plugin ++ dashed id.plugin_instance);
+  type_name = id.type_name;
+  type_instance = id.type_instance;
+}
+
+-- what the name of an identifier reads as: the identifier as its name shows it, where the moved fields make one
+abbrev pub read_of_name : Fields → Result Fields IdFault
+read_of_name id =
+    if is_empty (as_named id).plugin then Err BadIdentifier
+    else (if nat_lt 127 (length (as_named id).plugin_instance) then Err FieldTooLong else Ok (as_named id))

@@ -1,10 +1,15 @@
 -- The rate of a value against the value before it: a fraction of millionths per second, or unknown.
-use Rattle.std.specs.Prelude.{ℕ, ◌+◌, ◌-◌, ◌*◌, ◌^◌, ℤ, pos, ◌-ℤ◌, ◌*ℤ◌, int_le, int_div, Bool, true, false, not, ◌&&◌, ◌==◌, if◌then◌else◌, nat_le, nat_lt, Option, Some, None}
+use Rattle.std.specs.Prelude.{◌≡◌, ◌<◌, ◌≤◌, ◌≤ℤ◌, ℕ, ◌+◌, ◌-◌, ◌*◌, ◌^◌, ℤ, pos, nat_abs, ◌-ℤ◌, ◌*ℤ◌, int_le, int_div, Bool, true, false, not, ◌&&◌, ◌==◌, if◌then◌else◌, nat_le, nat_lt, Option, Some, None}
 use Rattle.cd_value.specs.declared.data.Value.{Value}
 use Rattle.cd_value.specs.declared.data.Value.TheVariants.{Counter, Gauge, Derive, Absolute}
 use Rattle.cd_value.specs.declared.data.DataSource.{DataSource}
 use Rattle.cd_value.specs.declared.data.Rate.{Rate}
 use Rattle.cd_value.specs.declared.data.Rate.TheVariants.{Known, Unknown}
+
+-- a rate is known, and its denominator isn't 0
+abbrev pub is_known : Rate → Bool
+is_known (Known num den) = not (den == 0)
+is_known Unknown = false
 
 -- a fraction is at least, or at most, a bound by the products of whole numbers, which have no limit; an unknown rate,
 -- as which a denominator of 0 reads, is neither
@@ -20,6 +25,18 @@ at_most Unknown bound = false
 abbrev pub millionths : Rate → Option ℤ
 millionths (Known num den) = if den == 0 then None else Some (int_div num (pos den))
 millionths Unknown = None
+
+-- a whole number is num / den without the part below one, which is cut off toward zero
+pub record IsCut (num : ℤ) (den : ℕ) (m : ℤ) : Type 0 where
+  pub within : nat_abs m * den ≤ nat_abs num
+  pub closest : nat_abs num < (nat_abs m + 1) * den
+  pub not_negative : pos 0 ≤ℤ num → pos 0 ≤ℤ m
+  pub not_positive : num ≤ℤ pos 0 → m ≤ℤ pos 0
+
+-- the same of a known rate
+abbrev pub IsCutOf : Rate → ℤ → Type 0
+IsCutOf (Known num den) m = IsCut num den m
+IsCutOf Unknown m = ⊥
 
 -- a change over dt units of 2^-30 seconds, in millionths per second
 abbrev pub per_second : ℤ → ℕ → Rate
@@ -52,6 +69,28 @@ keeps_max rate (Some max) = at_most rate max
 -- a rate outside its source's range is unknown
 abbrev pub in_range : DataSource → Rate → Rate
 in_range source rate = if reaches_min rate source.min && keeps_max rate source.max then rate else Unknown
+
+-- a rate that is known is within its source's range
+abbrev pub is_within : DataSource → Rate → Bool
+is_within source rate = reaches_min rate source.min && keeps_max rate source.max
+
+abbrev pub is_gauge : Value → Bool
+is_gauge (Gauge level) = true
+is_gauge _ = false
+
+-- where a counter wraps that stood at a value
+abbrev pub wrap_of : ℕ → ℕ
+wrap_of from = if nat_lt from (2 ^ 32) then 2 ^ 32 else 2 ^ 64
+
+-- a count leads a counter from one value to another, where it wraps once if it stands lower than before
+abbrev pub LeadsTo : ℕ → ℕ → ℕ → Type 0
+LeadsTo from count to = from + count ≡ (if nat_le from to then to else to + wrap_of from)
+
+-- of a counter, a rate that is known is a count by the time, where the count leads from the old value to the new
+abbrev pub IsOfCount : Option Value → Value → ℕ → Rate → Type 0
+IsOfCount (Some (Counter from)) (Counter to) dt (Known num den) =
+    (count : ℕ) × LeadsTo from count to × (num ≡ pos (count * (10 ^ 6 * 2 ^ 30))) × (den ≡ dt)
+IsOfCount _ _ _ _ = Unit {0}
 
 -- the rate of a value against the one before it, which was dt units of 2^-30 seconds earlier
 abbrev pub rate_of : DataSource → Option Value → Value → ℕ → Rate

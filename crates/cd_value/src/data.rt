@@ -38,7 +38,8 @@ pub enum Value {
     Absolute(u64),
 }
 
-/// A rate of `num / den` millionths per second, for a gauge `num / den` millionths, or an unknown one.
+/// A rate of `num / den` millionths per second, for a gauge `num / den` millionths, or an unknown one. With a `den` of 0
+/// it is read as unknown.
 #[derive(Clone, Copy, Debug)]
 pub enum Rate {
     Known { num: i128, den: u64 },

@@ -1,7 +1,9 @@
 // Texts made fit to be fields of an identifier.
-ghost use Rattle.std.specs.Prelude.{◌≡◌, ◌<◌, ◌≤◌, ℕ, length, take, map, IfOk};
+ghost use Rattle.std.specs.List.{list_any};
+ghost use Rattle.std.specs.Prelude.{◌≡◌, ◌<◌, ◌≤◌, ℕ, false, length, take, map, IfOk, IsTrue};
 ghost use Rattle.std.specs.Str.{IsCharBoundary};
-ghost use Rattle.cd_value.specs.Clean.{clean_byte, clean_field, field_or_old, longest_front};
+ghost use Rattle.cd_value.specs.Clean.{clean_byte, clean_field, field_or_old, is_clean, longest_front};
+ghost use Rattle.cd_value.specs.Identifier.{is_empty, is_field, is_slash};
 
 use crate::{Memory, Text, TryCopy};
 use std::alloc::Global;
@@ -11,7 +13,7 @@ const FIELD_LIMIT: usize = 127;
 
 /// A text as a field of an identifier: control characters, and `/` where `slash` is true, become `_`, and of the result
 /// the longest front of at most 127 bytes is kept that ends at a character. Where that is empty and a field is needed, it
-/// is a copy of the old field.
+/// is a copy of the old field. So from an old field that may stand in an identifier comes one that may.
 pub fn clean(
     alloc: Global,
     text: Text,
@@ -19,7 +21,11 @@ pub fn clean(
     old: &Text,
     needed: bool,
 ) -> Result<Text, Memory>
-    ensures { IfOk result (λ field. field ≡ field_or_old needed old.now (clean_field slash text)) }
+    ensures value { IfOk result (λ field. field ≡ field_or_old needed old.now (clean_field slash text)) }
+    ensures field { IsTrue (is_field old.now) → IfOk result (λ field. IsTrue (is_field field)) }
+    ensures without_slash { IsTrue slash → list_any is_slash old.now ≡ false → IfOk result (λ field. list_any is_slash field ≡ false) }
+    ensures needed { IsTrue needed → is_empty old.now ≡ false → IfOk result (λ field. is_empty field ≡ false) }
+    ensures kept { IsTrue (is_clean slash needed text) → IfOk result (λ field. field ≡ text) }
 {
     let field = clean_text(text, slash);
     if needed && field.is_empty() {
@@ -31,20 +37,28 @@ pub fn clean(
 
 /// The longest front of a text that has at most `limit` bytes and ends at a character.
 pub fn longest_front(text: &str, limit: usize) -> &str
-    ensures { result.now ≡ longest_front limit text.now }
+    ensures value { result.now ≡ longest_front limit text.now }
+    ensures short { length result.now ≤ limit }
+    ensures front { result.now ≡ take (length result.now) text.now }
+    ensures longest { (place : ℕ) → place ≤ limit → IsCharBoundary text.now place → place ≤ length result.now }
 {
     &text[..front_len(text, limit)]
 }
 
 fn front_len(text: &str, limit: usize) -> usize
+    ensures short { result ≤ limit }
     ensures boundary { IsCharBoundary text.now result }
+    ensures longest { (place : ℕ) → place ≤ limit → IsCharBoundary text.now place → place ≤ result }
     ensures front { take result text.now ≡ longest_front limit text.now }
 {
     text.floor_char_boundary(limit)
 }
 
 fn clean_text(text: Text, slash: bool) -> Text
-    ensures { result ≡ clean_field slash text }
+    ensures value { result ≡ clean_field slash text }
+    ensures field { IsTrue (is_field result) }
+    ensures without_slash { IsTrue slash → list_any is_slash result ≡ false }
+    ensures kept { IsTrue (is_clean slash false text) → result ≡ text }
 {
     let bytes = clean_bytes(text.into_string().into_bytes(), slash);
     let mut string = String::from_utf8(bytes).unwrap();

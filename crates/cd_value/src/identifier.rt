@@ -1,8 +1,8 @@
 // The identifier of a value list.
-ghost use Rattle.std.specs.Prelude.{◌≡◌, ◌<◌, ◌≤◌, ◌+◌, ◌++◌, IsTrue, IfOk, IfErr, OnOk, MatchOption, count_by};
+ghost use Rattle.std.specs.Prelude.{◌≡◌, ◌<◌, ◌≤◌, ◌+◌, ◌++◌, ◌↔◌, not, IsTrue, IfOk, IfErr, OnOk, MatchOption, count_by};
 ghost use Rattle.std.specs.List.{before_first, after_first, list_all, list_any};
 ghost use Rattle.cd_value.specs.Parts.{IsFaultOf, shown};
-ghost use Rattle.cd_value.specs.Identifier.{dashed, fields_of, has_bad_field, has_long_field, is_control, is_dash, is_identifier, is_slash, is_type_byte, name_of, read_identifier};
+ghost use Rattle.cd_value.specs.Identifier.{as_named, dashed, fields_of, has_bad_field, has_long_field, is_bad_text, is_control, is_dash, is_identifier, is_long_text, is_slash, is_type_byte, name_of, read_identifier, read_of_name};
 
 use crate::{Memory, Text, TryCopy};
 use std::alloc::Global;
@@ -73,10 +73,14 @@ impl TryCopy for Identifier {
 impl Identifier {
     /// Reads `host/plugin[-instance]/type[-instance]`, as in collectd-unixsock(5), "Identifiers". The host ends at the
     /// first `/` and the plugin part at the second; the rest is the type part, whose instance may have more `/`. In the
-    /// plugin part and in the type part an instance begins after the first `-`.
+    /// plugin part and in the type part an instance begins after the first `-`. Printing what was read and reading that
+    /// gives it again.
     pub fn read(alloc: Global, text: &str) -> Result<Identifier, IdFault>
         ensures ok { IfOk result (λ id. read_identifier text.now ≡ Ok id) }
         ensures err { IfErr result (IsFaultOf text.now) }
+        ensures bad { (result ≡ Err IdFault.BadIdentifier) ↔ IsTrue (is_bad_text text.now) }
+        ensures long { (result ≡ Err IdFault.FieldTooLong) ↔ IsTrue (is_long_text text.now) }
+        ensures again { IfOk result (λ id. read_identifier (name_of id) ≡ Ok id) }
     {
         let Some(parts) = Parts::of(text) else {
             return Err(IdFault::BadIdentifier);
@@ -91,9 +95,13 @@ impl Identifier {
     }
 
     /// The printed identifier, as in collectd-unixsock(5), "Identifiers": an empty instance is printed without its dash.
-    /// It is the key of the value cache, so identifiers of one name share their place there.
+    /// It is the key of the value cache, so identifiers of one name share their place there. A name reads as its
+    /// identifier again, but that a `-` in the plugin then begins the instance.
     pub fn name(&self, alloc: Global) -> Result<Text, Memory>
-        ensures { IfOk result (λ name. name ≡ name_of self.now) }
+        ensures value { IfOk result (λ name. name ≡ name_of self.now) }
+        ensures shows { IfOk result (λ name. fields_of name ≡ as_named self.now) }
+        ensures reads { IfOk result (λ name. read_identifier name ≡ read_of_name self.now) }
+        ensures again { IsTrue (not (list_any is_dash self.now.plugin)) → IfOk result (λ name. read_identifier name ≡ Ok self.now) }
     {
         let mut name = Text::with_capacity(alloc, self.name_capacity())?;
         name.push(self.host.as_str())?;

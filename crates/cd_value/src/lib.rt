@@ -35,3 +35,6 @@ pub type Names = Sequence<Text>;
 pub type Fates = Sequence<Offered>;
 /// The times (in 2^-30 s) and names of cached value lists.
 pub type Rows = Sequence<(u64, Text)>;
+
+#[cfg(test)]
+mod tests;

@@ -1,6 +1,7 @@
 // Printed numbers.
-ghost use Rattle.std.specs.Prelude.{◌≡◌, ◌++◌, ◌∷◌, [], IfOk, OnOk, string_bytes};
+ghost use Rattle.std.specs.Prelude.{◌≡◌, ◌++◌, ◌∷◌, [], IfOk, IsTrue, OnOk, codes, not, string_bytes};
 ghost use Rattle.cd_value.specs.Print.{digit, millionths_text, rate_text, six_digits};
+ghost use Rattle.cd_value.specs.Rates.{is_known};
 
 use crate::{Memory, Rate, Text};
 use std::alloc::{AllocError, Global};
@@ -23,7 +24,8 @@ pub fn print_millionths(alloc: Global, value: i128) -> Result<Text, Memory>
 impl Rate {
     /// The millionths of the rate, cut toward zero, as `print_millionths` prints them, or `NaN` where it is unknown.
     pub fn print(&self, alloc: Global) -> Result<Text, Memory>
-        ensures { IfOk result (λ text. text ≡ rate_text self.now) }
+        ensures value { IfOk result (λ text. text ≡ rate_text self.now) }
+        ensures unknown { IsTrue (not (is_known self.now)) → IfOk result (λ text. text ≡ codes "NaN") }
     {
         match self.millionths() {
             Some(value) => print_millionths(alloc, value),

@@ -1,7 +1,7 @@
 // Rates of values against the values before them.
-ghost use Rattle.std.specs.Prelude.{◌≡◌, ◌≤◌, ◌^◌, ◌≤ℤ◌, pos, negsuc, int_le, ◌*ℤ◌};
+ghost use Rattle.std.specs.Prelude.{◌≡◌, ◌≤◌, ◌^◌, ◌≤ℤ◌, pos, negsuc, int_le, ◌*ℤ◌, false, not, is_some, IfSome, IsNone, IsTrue};
 ghost use Rattle.std.specs.Option.{option_copied};
-ghost use Rattle.cd_value.specs.Rates.{rate_of, rate_of_change};
+ghost use Rattle.cd_value.specs.Rates.{IsCutOf, IsOfCount, LeadsTo, is_gauge, is_known, rate_of, rate_of_change};
 ghost use Rattle.cd_value.specs.Rates as rates;
 
 use crate::{DataSource, Rate, Value};
@@ -15,9 +15,15 @@ const WRAP_OF_32_BITS: u64 = 1 << 32;
 impl Rate {
     /// The rate of a value of a source against the value before it, which came `dt` units of 2^-30 s earlier, as in
     /// types.db(5) and collectd.conf(5): a gauge is its own rate; of a counter and of a derive it is the change, and of
-    /// an absolute the value, by the time. Only a gauge has a rate without an earlier value.
+    /// an absolute the value, by the time. Only a gauge has a rate without an earlier value. A counter that stands lower
+    /// than before has wrapped, at 2^32 where it stood below that, and at 2^64 otherwise. A rate below the source's least
+    /// or above its greatest is unknown.
     pub fn of(old: Option<&Value>, new: &Value, dt: u64, source: &DataSource) -> Rate
-        ensures { result ≡ rate_of source.now (option_copied old.entry) new.now dt }
+        ensures value { result ≡ rate_of source.now (option_copied old.entry) new.now dt }
+        ensures range { IsTrue (is_known result) → IsTrue (rates.is_within source.now result) }
+        ensures first { IsNone old.entry → IsTrue (not (is_gauge new.now)) → result ≡ Rate.Unknown }
+        ensures wrap { IsOfCount (option_copied old.entry) new.now dt result }
+        ensures never_by_zero { IsTrue (not (is_known result)) → result ≡ Rate.Unknown }
     {
         let rate = change(old, new, dt);
         if rate.reaches_min(source.min) && rate.keeps_max(source.max) {
@@ -27,9 +33,11 @@ impl Rate {
         }
     }
 
-    /// Whether the rate is known and at most `bound` millionths.
+    /// Whether the rate is known and at most `bound` millionths, by its exact fraction.
     pub fn at_most(&self, bound: i128) -> bool
-        ensures { result ≡ rates.at_most self.now bound }
+        ensures value { result ≡ rates.at_most self.now bound }
+        ensures else_above { IsTrue (is_known self.now) → result ≡ false → IsTrue (rates.at_least self.now bound) }
+        ensures unknown { IsTrue (not (is_known self.now)) → result ≡ false }
     {
         match self {
             Rate::Known { num, den } => *den != 0 && is_at_most(*num, *den, bound),
@@ -37,9 +45,11 @@ impl Rate {
         }
     }
 
-    /// Whether the rate is known and at least `bound` millionths.
+    /// Whether the rate is known and at least `bound` millionths, by its exact fraction.
     pub fn at_least(&self, bound: i128) -> bool
-        ensures { result ≡ rates.at_least self.now bound }
+        ensures value { result ≡ rates.at_least self.now bound }
+        ensures else_below { IsTrue (is_known self.now) → result ≡ false → IsTrue (rates.at_most self.now bound) }
+        ensures unknown { IsTrue (not (is_known self.now)) → result ≡ false }
     {
         match self {
             Rate::Known { num, den } => *den != 0 && is_at_least(*num, *den, bound),
@@ -49,7 +59,9 @@ impl Rate {
 
     /// The whole millionths, cut toward zero, or none where the rate is unknown.
     pub fn millionths(&self) -> Option<i128>
-        ensures { result ≡ rates.millionths self.now }
+        ensures value { result ≡ rates.millionths self.now }
+        ensures known { is_some result ≡ is_known self.now }
+        ensures toward_zero { IfSome result (IsCutOf self.now) }
     {
         match self {
             Rate::Known { num, den } => {
@@ -105,7 +117,8 @@ fn is_at_most(num: i128, den: u64, bound: i128) -> bool
 
 /// The rate before its range is looked at.
 fn change(old: Option<&Value>, new: &Value, dt: u64) -> Rate
-    ensures { result ≡ rate_of_change (option_copied old.entry) new.now dt }
+    ensures value { result ≡ rate_of_change (option_copied old.entry) new.now dt }
+    ensures wrap { IsOfCount (option_copied old.entry) new.now dt result }
 {
     match new {
         Value::Gauge(None) => Rate::Unknown,
@@ -130,7 +143,8 @@ fn change(old: Option<&Value>, new: &Value, dt: u64) -> Rate
 
 /// How far a counter has come.
 fn counter_change(old: u64, new: u64) -> u64
-    ensures { result ≡ rates.counter_change old new }
+    ensures value { result ≡ rates.counter_change old new }
+    ensures leads { LeadsTo old result new }
 {
     if old <= new {
         new - old

@@ -132,12 +132,14 @@ impl Text {
         self.string.len()
     }
 
+    /// Whether there is no byte.
     pub fn is_empty(&self) -> bool
         ensures { result ≡ (length self.now == 0) }
     {
         self.string.is_empty()
     }
 
+    /// The text as a string slice.
     pub fn as_str(&self) -> &str
         ensures { result.now ≡ self.now }
     {

@@ -1,0 +1,25 @@
+use Rattle.std.proofs.Common.{◌≡◌, true, ap, subst, ◌∙◌, rules}
+use Rattle.std.specs.List.{list_any}
+use Rattle.std.proofs.lemmas.Bool.{not-true}
+use Rattle.cd_value.specs.Identifier.{Fields, fields_of, is_dash, is_identifier, name_of, read_identifier}
+use Rattle.cd_value.proofs.Readable.{whole}
+use Rattle.cd_value.proofs.Names.{fields_of-name_of, read_identifier-name_of, read_again}
+use Rattle.cd_value.proofs.identifier.Identifier.name.Goals as goal
+
+pub returns-clause-shows : goal.returns-clause-shows
+returns-clause-shows c =
+    let value : c.push_instance-2.new.name ≡ name_of c.args.self.now = search rules in
+    let own : is_identifier c.args.self.now ≡ true = subst (λ (id : Fields). is_identifier id ≡ true) c.self.view_is c.self.invariant in
+    ap fields_of value ∙ fields_of-name_of c.args.self.now (whole c.args.self.now own)
+
+pub returns-clause-reads : goal.returns-clause-reads
+returns-clause-reads c =
+    let value : c.push_instance-2.new.name ≡ name_of c.args.self.now = search rules in
+    let own : is_identifier c.args.self.now ≡ true = subst (λ (id : Fields). is_identifier id ≡ true) c.self.view_is c.self.invariant in
+    ap read_identifier value ∙ read_identifier-name_of c.args.self.now own
+
+pub returns-clause-again : goal.returns-clause-again
+returns-clause-again c = λ none.
+    let value : c.push_instance-2.new.name ≡ name_of c.args.self.now = search rules in
+    let own : is_identifier c.args.self.now ≡ true = subst (λ (id : Fields). is_identifier id ≡ true) c.self.view_is c.self.invariant in
+    ap read_identifier value ∙ read_again c.args.self.now own (not-true (list_any is_dash c.args.self.now.plugin) none)
