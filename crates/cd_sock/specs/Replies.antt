@@ -1,5 +1,5 @@
 -- The texts of replies.
-use Rattle.std.specs.Prelude.{ℕ, ◌/◌, ◌^◌, ◌==◌, if◌then◌else◌, List, [], ◌∷◌, ◌++◌, length, codes}
+use Rattle.std.specs.Prelude.{ℕ, ◌/◌, ◌^◌, ◌==◌, if◌then◌else◌, List, [], ◌∷◌, ◌++◌, length, codes, Option, Some, None}
 use Rattle.std.specs.List.{flat_map}
 use Rattle.std.specs.Fmt.{decimal}
 use Rattle.cd_value.specs.declared.data.Rate.{Rate}
@@ -32,11 +32,20 @@ fault_text fault.Memory = codes "-1 Out of memory"
 abbrev pub values_found : ℕ → List ℕ
 values_found n = line (decimal n ++ (if n == 1 then codes " Value found" else codes " Values found"))
 
--- one line for each data source: its name and its rate, NaN where it has none
+-- NaN where a data source has no rate
+abbrev pub rate_or_nan : Option Rate → List ℕ
+rate_or_nan None = codes "NaN"
+rate_or_nan (Some rate) = rate_text rate
+
+-- the name of a data source and its rate
+abbrev pub rate_line : List ℕ → Option Rate → List ℕ
+rate_line name rate = line (name ++ codes "=" ++ rate_or_nan rate)
+
+-- one line for each data source
 abbrev pub rate_lines : List (List ℕ) → List Rate → List ℕ
 rate_lines [] rates = []
-rate_lines (name ∷ names) [] = line (name ++ codes "=NaN") ++ rate_lines names []
-rate_lines (name ∷ names) (rate ∷ rates) = line (name ++ codes "=" ++ rate_text rate) ++ rate_lines names rates
+rate_lines (name ∷ names) [] = rate_line name None ++ rate_lines names []
+rate_lines (name ∷ names) (rate ∷ rates) = rate_line name (Some rate) ++ rate_lines names rates
 
 -- the whole seconds of a time, a space and the name
 abbrev pub row_line : ℕ × List ℕ → List ℕ

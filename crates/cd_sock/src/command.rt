@@ -1,15 +1,225 @@
-// What a line says.
-use cd_value::{Identifier, Lists};
+// The commands of clients.
+ghost use Rattle.std.specs.Prelude.{◌≡◌, ℕ, IfErr, IfOk, IsOk, OnOk, Result};
+ghost use Rattle.std.specs.List.{list_all};
+ghost use Rattle.cd_reading.specs.Gives.{Gives, Refuses};
+ghost use Rattle.cd_sock.specs.Faults.{fault};
+ghost use Rattle.cd_sock.specs.Meaning.{ListsFit, at_moment, get_val, is_blank, is_blank_line, list_val, meaning, put_known, put_parts, put_val, request_of_text, request_of_words, without_return};
 
-/// A line that isn't refused, as in collectd-unixsock(5).
+use crate::LineFault;
+use crate::arguments::{is_named, read_interval, split_options};
+use crate::lists::read_lists;
+use cd_text::{Word, words};
+use cd_types::TypesDb;
+use cd_value::{DataSource, Identifier, Lists};
+use std::alloc::Global;
+use std::str;
+
+/// A command of collectd-unixsock(5).
 #[derive(Drop)]
 pub enum Command {
-    /// Only blanks, which get no reply.
+    /// A line of blanks, which gets no reply.
     Blank,
-    /// Value lists to accept, one for each value word.
+    /// The value lists of PUTVAL, one for each value word.
     PutVal(Lists),
-    /// Asks for the rates under the name of an identifier.
+    /// GETVAL asks for the rates of an identifier.
     GetVal(Identifier),
-    /// Asks for the times and names of all cached lists.
+    /// LISTVAL asks for the names of all cached values.
     ListVal,
+}
+
+/// The line without a carriage return at its end.
+fn without_return(line: &[u8]) -> &[u8]
+    ensures { result.now ≡ without_return line.now }
+{
+    if !line.is_empty() && line[line.len() - 1] == b'\r' {
+        &line[..line.len() - 1]
+    } else {
+        line
+    }
+}
+
+fn is_blank(text: &[u8]) -> bool
+    ensures { result ≡ list_all is_blank text.now }
+{
+    text.iter().all(|byte| *byte == b' ' || *byte == b'\t')
+}
+
+/// Whether a line without its newline is blank, so that it is read as `Command::Blank` at any moment: it has at most 4,096
+/// bytes, all of them spaces and tabs but for a carriage return at the end.
+pub fn is_blank_line(line: &[u8]) -> bool
+    ensures { result ≡ is_blank_line line.now }
+{
+    line.len() <= 4096 && is_blank(without_return(line))
+}
+
+/// PUTVAL with an identifier of a known type.
+#[tactic(auto, unfolding(crate::specs::Meaning::put_known))]
+fn put_known(
+    alloc: Global,
+    id: Identifier,
+    sources: &[DataSource],
+    options: &[Word],
+    values: &[Word],
+    now: u64,
+    interval: u64,
+) -> Result<Command, LineFault>
+    ensures { Gives (λ command. command) fault result (at_moment now interval (put_known id sources.now options.now values.now)) }
+{
+    let interval = read_interval(options, interval)?;
+    let lists = read_lists(alloc, sources, values, id, now, interval)?;
+    Ok(Command::PutVal(lists))
+}
+
+/// PUTVAL with its arguments told apart.
+#[tactic(auto, unfolding(crate::specs::Meaning::put_parts))]
+fn put_parts(
+    alloc: Global,
+    types: &TypesDb,
+    name: &str,
+    options: &[Word],
+    values: &[Word],
+    now: u64,
+    interval: u64,
+) -> Result<Command, LineFault>
+    ensures { Gives (λ command. command) fault result (at_moment now interval (put_parts types.now name.now options.now values.now)) }
+{
+    if values.is_empty() {
+        return Err(LineFault::MissingArgument);
+    }
+    let id = Identifier::read(alloc, name)?;
+    let Some(set) = types.get(id.type_name.as_str()) else {
+        return Err(LineFault::UnknownType);
+    };
+    put_known(
+        alloc,
+        id,
+        set.sources.as_slice(),
+        options,
+        values,
+        now,
+        interval,
+    )
+}
+
+#[tactic(auto, unfolding(crate::specs::Meaning::put_val))]
+fn put_val(
+    alloc: Global,
+    types: &TypesDb,
+    arguments: &[Word],
+    now: u64,
+    interval: u64,
+) -> Result<Command, LineFault>
+    ensures { Gives (λ command. command) fault result (at_moment now interval (put_val types.now arguments.now)) }
+{
+    let Some((name, more)) = arguments.split_first() else {
+        return Err(LineFault::MissingArgument);
+    };
+    let (options, values) = split_options(more);
+    put_parts(
+        alloc,
+        types,
+        name.text.as_str(),
+        options,
+        values,
+        now,
+        interval,
+    )
+}
+
+#[tactic(auto, unfolding(crate::specs::Meaning::get_val))]
+fn get_val(alloc: Global, arguments: &[Word], now: u64, interval: u64) -> Result<Command, LineFault>
+    ensures { Gives (λ command. command) fault result (at_moment now interval (get_val arguments.now)) }
+{
+    let Some((name, more)) = arguments.split_first() else {
+        return Err(LineFault::MissingArgument);
+    };
+    let id = Identifier::read(alloc, name.text.as_str())?;
+    if !more.is_empty() {
+        return Err(LineFault::BadOption);
+    }
+    Ok(Command::GetVal(id))
+}
+
+#[tactic(auto, unfolding(crate::specs::Meaning::list_val))]
+fn list_val(arguments: &[Word]) -> Result<Command, LineFault>
+    ensures { (now interval : ℕ) → result ≡ at_moment now interval (list_val arguments.now) }
+{
+    if arguments.is_empty() {
+        Ok(Command::ListVal)
+    } else {
+        Err(LineFault::BadOption)
+    }
+}
+
+/// The command that the first word names.
+#[tactic(auto, unfolding(crate::specs::Meaning::request_of_words))]
+fn read_words(
+    alloc: Global,
+    types: &TypesDb,
+    words: &[Word],
+    now: u64,
+    interval: u64,
+) -> Result<Command, LineFault>
+    ensures { Gives (λ command. command) fault result (at_moment now interval (request_of_words types.now words.now)) }
+{
+    let Some((name, arguments)) = words.split_first() else {
+        return Err(LineFault::UnknownCommand);
+    };
+    let name = name.text.as_str();
+    if is_named(name, "PUTVAL") {
+        put_val(alloc, types, arguments, now, interval)
+    } else if is_named(name, "GETVAL") {
+        get_val(alloc, arguments, now, interval)
+    } else if is_named(name, "LISTVAL") {
+        list_val(arguments)
+    } else {
+        Err(LineFault::UnknownCommand)
+    }
+}
+
+/// The command of a line without its carriage return.
+#[tactic(auto, unfolding(crate::specs::Meaning::request_of_text))]
+fn read_text(
+    alloc: Global,
+    types: &TypesDb,
+    text: &[u8],
+    now: u64,
+    interval: u64,
+) -> Result<Command, LineFault>
+    ensures { Gives (λ command. command) fault result (at_moment now interval (request_of_text types.now text.now)) }
+{
+    if is_blank(text) {
+        return Ok(Command::Blank);
+    }
+    let Ok(text) = str::from_utf8(text) else {
+        return Err(LineFault::NotUtf8);
+    };
+    let words = words(alloc, text)?;
+    read_words(alloc, types, words.as_slice(), now, interval)
+}
+
+impl Command {
+    /// The command of a line without its newline, at a moment and with the global interval, both in units of 2^-30 s, as
+    /// in collectd-unixsock(5).
+    ///
+    /// Of several faults the first in the order of `LineFault` is given. Whether a line is refused, and why, depends on
+    /// neither the moment nor the global interval.
+    #[tactic(auto, unfolding(crate::specs::Meaning::request_of))]
+    pub fn read(
+        alloc: Global,
+        line: &[u8],
+        types: &TypesDb,
+        now: u64,
+        interval: u64,
+    ) -> Result<Command, LineFault>
+        ensures meaning { Gives (λ command. command) fault result (meaning types.now now interval line.now) }
+        ensures same_fault { IfErr result (λ e. (later other : ℕ) → Refuses (fault e) (meaning types.now later other line.now)) }
+        ensures no_fault { OnOk result ((later other : ℕ) → IsOk (meaning types.now later other line.now)) }
+        ensures fits { IfOk result (λ command. ListsFit types.now command) }
+    {
+        if line.len() > 4096 {
+            return Err(LineFault::LineTooLong);
+        }
+        read_text(alloc, types, without_return(line), now, interval)
+    }
 }

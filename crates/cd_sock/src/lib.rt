@@ -2,12 +2,15 @@
 //! answered.
 #![tactic(auto)]
 
+mod arguments;
 mod command;
 mod fault;
 mod lines;
+mod lists;
 mod reply;
+mod values;
 
-pub use command::Command;
+pub use command::{Command, is_blank_line};
 pub use fault::LineFault;
 pub use lines::{Line, LineCutter};
-pub use reply::Reply;
+pub use reply::{Reply, print_reply};

@@ -1,6 +1,12 @@
 // Replies to lines.
+ghost use Rattle.std.specs.Prelude.{◌≡◌, ◌++◌, ◌∷◌, [], ◌<◌, ◌^◌, IfOk, OnOk, length, string_bytes, option_copied};
+ghost use Rattle.std.specs.List.{flat_map};
+ghost use Rattle.cd_sock.specs.Framing.{HasPlainNames, IsFramed};
+ghost use Rattle.cd_sock.specs.Replies.{fault_text, line, rate_line, rate_lines, rate_or_nan, reply_text, row_line, values_found};
+
 use crate::LineFault;
-use cd_value::{Names, Rates, Rows};
+use cd_value::{Memory, Names, Rate, Rates, Rows, Text};
+use std::alloc::{AllocError, Global};
 
 /// The reply to a line, as in collectd-unixsock(5).
 #[derive(Drop)]
@@ -8,11 +14,120 @@ pub enum Reply {
     /// The lists were accepted.
     Success,
     /// The names of the data sources and their rates.
-    Got { names: Names, rates: Rates },
+    Got(Names, Rates),
     /// The times, in units of 2^-30 s, and names of all cached lists.
     Listed(Rows),
     /// The line was refused.
     Fault(LineFault),
     /// Nothing is cached under the name.
     NoSuchValue,
+}
+
+/// The first line of a reply, which says how many values follow.
+fn print_count(alloc: Global, count: usize) -> Result<String, AllocError>
+    ensures text { IfOk result (λ text. string_bytes text ≡ values_found count) }
+    ensures few { count < 2 ^ 64 }
+{
+    if count == 1 {
+        format!(in alloc; "{count} Value found\n")
+    } else {
+        format!(in alloc; "{count} Values found\n")
+    }
+}
+
+/// Adds the rate of a source, `NaN` where it has none.
+fn push_rate(alloc: Global, text: &mut String, rate: Option<&Rate>) -> Result<(), Memory>
+    ensures { OnOk result (string_bytes text.new ≡ string_bytes text.old ++ rate_or_nan (option_copied rate.entry)) }
+{
+    match rate {
+        Some(rate) => text.push_str(rate.print(alloc)?.as_str())?,
+        None => text.push_str("NaN")?,
+    }
+    Ok(())
+}
+
+/// Adds the line of a source.
+fn push_source(
+    alloc: Global,
+    text: &mut String,
+    name: &str,
+    rate: Option<&Rate>,
+) -> Result<(), Memory>
+    ensures { OnOk result (string_bytes text.new ≡ string_bytes text.old ++ rate_line name.now (option_copied rate.entry)) }
+{
+    text.push_str(name)?;
+    text.push('=')?;
+    push_rate(alloc, text, rate)?;
+    text.push('\n')?;
+    Ok(())
+}
+
+/// Adds the line of a cached list.
+fn push_row(text: &mut String, time: u64, name: &str) -> Result<(), AllocError>
+    ensures { OnOk result (string_bytes text.new ≡ string_bytes text.old ++ row_line (time, name.now)) }
+{
+    let seconds = time / (1 << 30);
+    write!(text, "{seconds} ")?;
+    text.push_str(name)?;
+    text.push('\n')
+}
+
+/// The reply with the rates of sources.
+fn print_rates(alloc: Global, names: &[Text], rates: &[Rate]) -> Result<Text, Memory>
+    ensures text { IfOk result (λ text. text ≡ values_found (length names.now) ++ rate_lines names.now rates.now) }
+    ensures few { length names.now < 2 ^ 64 }
+{
+    let mut text = print_count(alloc, names.len())?;
+    for (i, name) in names.iter().enumerate() {
+        push_source(alloc, &mut text, name.as_str(), rates.get(i))?;
+    }
+    Ok(Text::from_string(text))
+}
+
+/// The reply with the times and names of cached lists.
+fn print_rows(alloc: Global, rows: &[(u64, Text)]) -> Result<Text, Memory>
+    ensures text { IfOk result (λ text. text ≡ values_found (length rows.now) ++ flat_map row_line rows.now) }
+    ensures few { length rows.now < 2 ^ 64 }
+{
+    let mut text = print_count(alloc, rows.len())?;
+    for row in rows {
+        push_row(&mut text, row.0, row.1.as_str())?;
+    }
+    Ok(Text::from_string(text))
+}
+
+/// The text of a fault with its newline.
+fn fault_line(fault: LineFault) -> &'static str
+    ensures { result.now ≡ line (fault_text fault) }
+{
+    match fault {
+        LineFault::LineTooLong => "-1 Line too long\n",
+        LineFault::NotUtf8 => "-1 Not UTF-8\n",
+        LineFault::UnterminatedQuote => "-1 Unterminated quote\n",
+        LineFault::UnknownCommand => "-1 Unknown command\n",
+        LineFault::MissingArgument => "-1 Missing argument\n",
+        LineFault::BadIdentifier => "-1 Bad identifier\n",
+        LineFault::UnknownType => "-1 Unknown type\n",
+        LineFault::BadOption => "-1 Bad option\n",
+        LineFault::BadTime => "-1 Bad time\n",
+        LineFault::WrongNumberOfValues => "-1 Wrong number of values\n",
+        LineFault::BadValue => "-1 Bad value\n",
+        LineFault::Memory => "-1 Out of memory\n",
+    }
+}
+
+/// The text of a reply, each of its lines with a newline, as in collectd-unixsock(5): a status and a message, and then one
+/// line for each name of `Got`, and for each row of `Listed` with its time in whole seconds. A name without a rate has the
+/// value `NaN`, and a rate without a name isn't printed.
+pub fn print_reply(alloc: Global, reply: &Reply) -> Result<Text, Memory>
+    ensures text { IfOk result (λ text. text ≡ reply_text reply.now) }
+    ensures framed { IfOk result (λ text. HasPlainNames reply.now → IsFramed text) }
+{
+    match reply {
+        Reply::Success => Text::of(alloc, "0 Success\n"),
+        Reply::Got(names, rates) => print_rates(alloc, names.as_slice(), rates.as_slice()),
+        Reply::Listed(rows) => print_rows(alloc, rows.as_slice()),
+        Reply::Fault(fault) => Text::of(alloc, fault_line(*fault)),
+        Reply::NoSuchValue => Text::of(alloc, "-1 No such value\n"),
+    }
 }

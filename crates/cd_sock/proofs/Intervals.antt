@@ -1,0 +1,44 @@
+-- The interval of PUTVAL's options.
+use Rattle.std.proofs.Common.{◌≡◌, ℕ, ◌+◌, ◌-◌, Bool, true, false, ◌&&◌, cond, List, [], ◌∷◌, ◌++◌, length, Option, Some, None, Result, Ok, Err, refl, sym, ap, ◌∙◌, arith, length-append}
+use Rattle.std.specs.Prelude.{slice_get, ok_or, option_and_then, is_some}
+use Rattle.std.specs.List.{list_all}
+use Rattle.std.proofs.lemmas.List.Folds.{list_all-append}
+use Rattle.cd_text.specs.declared.word.Word.{Word}
+use Rattle.cd_sock.specs.declared.fault.LineFault.TheVariants.{BadOption, BadTime}
+use Rattle.cd_sock.specs.Arguments.{argument, interval_of, last_interval}
+use Rattle.cd_sock.specs.Meaning.{has_interval, is_interval, interval_in}
+
+get_last : {X : Type 0} (xs : List X) (x : X) → slice_get (xs ++ x ∷ []) (length xs) ≡ Some x
+get_last [] x = refl
+get_last (y ∷ xs) x = get_last xs x
+
+last_is : (earlier : List Word) (last : Word) → last_interval (earlier ++ last ∷ []) ≡ interval_of (argument last)
+last_is earlier last =
+    let place : length (earlier ++ last ∷ []) - 1 ≡ length earlier = omega (arith, length-append earlier (last ∷ [])) in
+    ap (λ (n : ℕ). option_and_then (λ option. interval_of (argument option)) (slice_get (earlier ++ last ∷ []) n)) place
+    ∙ ap (option_and_then (λ option. interval_of (argument option))) (get_last earlier last)
+
+given_by_all : (options earlier : List Word) (last : Word) → options ≡ earlier ++ last ∷ [] → list_all has_interval options ≡ (list_all has_interval earlier && (has_interval last && true))
+given_by_all options earlier last same = ap (list_all has_interval) same ∙ list_all-append has_interval earlier (last ∷ [])
+
+-- the interval is that of the last option, where the earlier ones have no fault
+pub interval_at_last : (options earlier : List Word) (last : Word) (global : ℕ) → options ≡ earlier ++ last ∷ [] → list_all is_interval options ≡ true
+    → list_all has_interval earlier ≡ true → ok_or (interval_of (argument last)) BadTime ≡ interval_in options global
+interval_at_last options earlier last global same named given = by (interval_of (argument last)) refl
+  where
+    by : (o : Option ℕ) → interval_of (argument last) ≡ o → ok_or o BadTime ≡ interval_in options global
+    by None e =
+        let all : list_all has_interval options ≡ false
+        = given_by_all options earlier last same ∙ ap (λ (b : Bool). b && (has_interval last && true)) given ∙ ap (λ (o : Option ℕ). is_some o && true) e in
+        rw (named, all) refl
+    by (Some t) e =
+        let all : list_all has_interval options ≡ true
+        = given_by_all options earlier last same ∙ ap (λ (b : Bool). b && (has_interval last && true)) given ∙ ap (λ (o : Option ℕ). is_some o && true) e in
+        let own : last_interval options ≡ Some t = ap last_interval same ∙ last_is earlier last ∙ e in
+        rw (named, all, own) refl
+
+pub bad_earlier : (options earlier : List Word) (last : Word) (global : ℕ) → options ≡ earlier ++ last ∷ [] → list_all is_interval options ≡ true
+    → list_all has_interval earlier ≡ false → Err BadTime ≡ interval_in options global
+bad_earlier options earlier last global same named given =
+    let all : list_all has_interval options ≡ false = given_by_all options earlier last same ∙ ap (λ (b : Bool). b && (has_interval last && true)) given in
+    rw (named, all) refl

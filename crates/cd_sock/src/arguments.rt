@@ -1,0 +1,97 @@
+// The words of a command.
+ghost use Rattle.std.specs.Prelude.{◌≡◌, Result, Ok, Err, unwrap_or};
+ghost use Rattle.std.specs.List.{list_all, position, before_first, after_first};
+ghost use Rattle.cd_reading.specs.First.{unless};
+ghost use Rattle.cd_sock.specs.Arguments.{argument, from_first_plain, has_key, interval_of, is_equals, is_named, is_plain, key, leading_options};
+ghost use Rattle.cd_sock.specs.Meaning.{has_interval, interval_in, is_interval};
+
+use crate::LineFault;
+use cd_text::{Word, read_time};
+
+/// Whether the text is the name, whatever the case of its letters.
+pub fn is_named(text: &str, name: &str) -> bool
+    ensures { result ≡ is_named name.now text.now }
+{
+    text.eq_ignore_ascii_case(name)
+}
+
+/// Whether a word has a key.
+fn has_key(word: &Word) -> bool
+    ensures { result ≡ has_key word.now }
+{
+    word.text.as_str().bytes().any(|byte| byte == b'=')
+}
+
+/// The place of the first word without a key.
+fn place_of_plain(words: &[Word]) -> Option<usize>
+    ensures { result ≡ position is_plain words.now }
+{
+    words.iter().position(|word| !has_key(word))
+}
+
+/// The words with a key before the first other one, and all from there on.
+pub fn split_options(words: &[Word]) -> (&[Word], &[Word])
+    ensures options { result.0.now ≡ leading_options words.now }
+    ensures others { result.1.now ≡ from_first_plain words.now }
+{
+    match place_of_plain(words) {
+        Some(place) => words.split_at(place),
+        None => words.split_at(words.len()),
+    }
+}
+
+/// A text before its first `=`, and what stands after it.
+fn at_equals(text: &str) -> (&str, &str)
+    ensures before { result.0.now ≡ before_first is_equals text.now }
+    ensures after { result.1.now ≡ after_first is_equals text.now }
+{
+    match text.split_once('=') {
+        Some((key, argument)) => (key, argument),
+        None => (text, ""),
+    }
+}
+
+/// Whether a word is an interval.
+fn is_interval(option: &Word) -> bool
+    ensures { result ≡ is_interval option.now }
+{
+    is_named(at_equals(option.text.as_str()).0, "interval")
+}
+
+/// The interval that an option gives, in units of 2^-30 s.
+fn interval_of(option: &Word) -> Option<u64>
+    ensures { result ≡ interval_of (argument option.now) }
+{
+    match read_time(at_equals(option.text.as_str()).1) {
+        Ok(time) if time > 0 => Some(time),
+        _ => None,
+    }
+}
+
+fn all_intervals(options: &[Word]) -> bool
+    ensures { result ≡ list_all is_interval options.now }
+{
+    options.iter().all(|option| is_interval(option))
+}
+
+fn all_give_intervals(options: &[Word]) -> bool
+    ensures { result ≡ list_all has_interval options.now }
+{
+    options.iter().all(|option| interval_of(option).is_some())
+}
+
+/// The interval of the last option, and the global one where there is none.
+pub fn read_interval(options: &[Word], global: u64) -> Result<u64, LineFault>
+    ensures { result ≡ interval_in options.now global }
+{
+    if !all_intervals(options) {
+        return Err(LineFault::BadOption);
+    }
+    let Some((last, earlier)) = options.split_last() else {
+        return Ok(global);
+    };
+    if !all_give_intervals(earlier) {
+        return Err(LineFault::BadTime);
+    }
+    interval_of(last).ok_or(LineFault::BadTime)
+}
