@@ -5,11 +5,10 @@
 use cd_turn::Turn;
 use cd_turn_tests::{Count, count_of_family, run};
 use std::alloc::Global;
-use std::env;
-use std::io;
 use std::sync::Wait;
 use std::thread::Threads;
 use std::time::Instant;
+use std::{env, io};
 
 /// Takes the turns, and says how many there were.
 fn taken<R: Threads + Wait, W: Wait + Copy + Send + Drop + 'static>(
