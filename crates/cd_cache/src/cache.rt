@@ -19,6 +19,7 @@ use std::marker::Model;
 /// LISTVAL and GETVAL. Contracts see its entries in the order in which their names came, each name once.
 #[derive(Drop)]
 pub struct Cache {
+    /// Kept for the search for missing lists. No call reads it yet.
     timeout: u32,
     entries: Vec<Named>,
 }

@@ -12,10 +12,10 @@ use Rattle.cd_sock.specs.Lines.{is_newline, but_last, last_part, whole_lines, un
 
 -- ---- bytes of one line
 
-empty_in : IsInLine []
+pub empty_in : IsInLine []
 empty_in k d lt = absurd (omega arith)
 
-cons_in : (b : ℕ) (bs : List ℕ) → is_newline b ≡ false → IsInLine bs → IsInLine (b ∷ bs)
+pub cons_in : (b : ℕ) (bs : List ℕ) → is_newline b ≡ false → IsInLine bs → IsInLine (b ∷ bs)
 cons_in b bs h t zero d lt = h
 cons_in b bs h t (suc k) d lt = t k d (omega arith)
 
@@ -147,7 +147,7 @@ unfinished_at_newline heard = ap last_part (parts_at_newline heard []) ∙ last_
 
 -- ---- lines
 
-parts_exist : (bytes x : List ℕ) → (but_last (x ∷ slice_split is_newline bytes) ≡ x ∷ but_last (slice_split is_newline bytes)) × (last_part (x ∷ slice_split is_newline bytes) ≡ last_part (slice_split is_newline bytes))
+pub parts_exist : (bytes x : List ℕ) → (but_last (x ∷ slice_split is_newline bytes) ≡ x ∷ but_last (slice_split is_newline bytes)) × (last_part (x ∷ slice_split is_newline bytes) ≡ last_part (slice_split is_newline bytes))
 parts_exist bytes x = at (slice_split is_newline bytes) (some_parts bytes)
   where
     at : (parts : List (List ℕ)) → 0 < length parts → (but_last (x ∷ parts) ≡ x ∷ but_last parts) × (last_part (x ∷ parts) ≡ last_part parts)

@@ -1,6 +1,7 @@
 // Replies to lines.
-ghost use Rattle.std.specs.Prelude.{◌≡◌, ◌++◌, ◌∷◌, [], IfOk, OnOk, length, string_bytes, option_copied};
+ghost use Rattle.std.specs.Prelude.{◌≡◌, ◌++◌, ◌∷◌, [], ◌<◌, ◌^◌, IfOk, OnOk, length, string_bytes, option_copied};
 ghost use Rattle.std.specs.List.{flat_map};
+ghost use Rattle.cd_sock.specs.Framing.{HasPlainNames, IsFramed};
 ghost use Rattle.cd_sock.specs.Replies.{fault_text, line, rate_line, rate_lines, rate_or_nan, reply_text, row_line, values_found};
 
 use crate::LineFault;
@@ -24,7 +25,8 @@ pub enum Reply {
 
 /// The first line of a reply, which says how many values follow.
 fn print_count(alloc: Global, count: usize) -> Result<String, AllocError>
-    ensures { IfOk result (λ text. string_bytes text ≡ values_found count) }
+    ensures text { IfOk result (λ text. string_bytes text ≡ values_found count) }
+    ensures few { count < 2 ^ 64 }
 {
     if count == 1 {
         format!(in alloc; "{count} Value found\n")
@@ -72,7 +74,8 @@ fn push_row(text: &mut String, time: u64, name: &str) -> Result<(), AllocError>
 
 /// The reply with the rates of sources.
 fn print_rates(alloc: Global, names: &[Text], rates: &[Rate]) -> Result<Text, Memory>
-    ensures { IfOk result (λ text. text ≡ values_found (length names.now) ++ rate_lines names.now rates.now) }
+    ensures text { IfOk result (λ text. text ≡ values_found (length names.now) ++ rate_lines names.now rates.now) }
+    ensures few { length names.now < 2 ^ 64 }
 {
     let mut text = print_count(alloc, names.len())?;
     for (i, name) in names.iter().enumerate() {
@@ -83,7 +86,8 @@ fn print_rates(alloc: Global, names: &[Text], rates: &[Rate]) -> Result<Text, Me
 
 /// The reply with the times and names of cached lists.
 fn print_rows(alloc: Global, rows: &[(u64, Text)]) -> Result<Text, Memory>
-    ensures { IfOk result (λ text. text ≡ values_found (length rows.now) ++ flat_map row_line rows.now) }
+    ensures text { IfOk result (λ text. text ≡ values_found (length rows.now) ++ flat_map row_line rows.now) }
+    ensures few { length rows.now < 2 ^ 64 }
 {
     let mut text = print_count(alloc, rows.len())?;
     for row in rows {
@@ -116,7 +120,8 @@ fn fault_line(fault: LineFault) -> &'static str
 /// line for each name of `Got`, and for each row of `Listed` with its time in whole seconds. A name without a rate has the
 /// value `NaN`, and a rate without a name isn't printed.
 pub fn print_reply(alloc: Global, reply: &Reply) -> Result<Text, Memory>
-    ensures { IfOk result (λ text. text ≡ reply_text reply.now) }
+    ensures text { IfOk result (λ text. text ≡ reply_text reply.now) }
+    ensures framed { IfOk result (λ text. HasPlainNames reply.now → IsFramed text) }
 {
     match reply {
         Reply::Success => Text::of(alloc, "0 Success\n"),

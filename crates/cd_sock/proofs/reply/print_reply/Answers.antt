@@ -1,0 +1,41 @@
+use Rattle.std.proofs.Common.{◌≡◌, ◌∙◌, ◌++◌, ap, refl, sym, subst, length, List, ℕ}
+use Rattle.std.specs.Prelude.{codes}
+use Rattle.std.specs.List.{flat_map, list_all}
+use Rattle.std.proofs.lemmas.Result.{IfOk-weaker}
+use Rattle.cd_sock.specs.declared.reply.Reply.{Reply}
+use Rattle.cd_sock.specs.Framing.{HasPlainNames, IsFramed, is_one_line}
+use Rattle.cd_sock.specs.Replies.{fault_text, line, rate_lines, row_line, values_found}
+use Rattle.cd_sock.proofs.Frames.{fault_framed, rates_framed, refusal_framed, rows_framed, success_framed}
+use Rattle.cd_sock.proofs.reply.print_reply.Goals as goal
+
+-- a text that is framed
+abbrev at : {text other : List ℕ} → text ≡ other → IsFramed other → IsFramed text
+at {text} {other} same framed = subst (λ (t : List ℕ). IsFramed t) (sym same) framed
+
+pub returns-in-Success-clause-framed : goal.returns-in-Success-clause-framed
+returns-in-Success-clause-framed c =
+    IfOk-weaker c.of.result (λ (text : List ℕ). text ≡ line (codes "0 Success")) (λ (text : List ℕ). HasPlainNames c.args.reply.now → IsFramed text) (λ text same plain. at same success_framed) c.of.ensures
+
+pub returns-in-Got-clause-framed : goal.returns-in-Got-clause-framed
+returns-in-Got-clause-framed c =
+    IfOk-weaker c.print_rates.result (λ (text : List ℕ). text ≡ values_found (length c.as_slice.result.now) ++ rate_lines c.as_slice.result.now c.as_slice-in-Got.result.now)
+    (λ (text : List ℕ). HasPlainNames c.args.reply.now → IsFramed text)
+    (λ text same plain. at same (rates_framed c.as_slice.result.now c.as_slice-in-Got.result.now c.print_rates.ensures.few
+    (ap (list_all is_one_line) c.as_slice.ensures ∙ subst (λ (reply : Reply). HasPlainNames reply) c.in-Got.is plain))) c.print_rates.ensures.text
+
+pub returns-in-Listed-clause-framed : goal.returns-in-Listed-clause-framed
+returns-in-Listed-clause-framed c =
+    IfOk-weaker c.print_rows.result (λ (text : List ℕ). text ≡ values_found (length c.as_slice-in-Listed.result.now) ++ flat_map row_line c.as_slice-in-Listed.result.now)
+    (λ (text : List ℕ). HasPlainNames c.args.reply.now → IsFramed text)
+    (λ text same plain. at same (rows_framed c.as_slice-in-Listed.result.now c.print_rows.ensures.few
+    (ap (list_all (λ row. is_one_line row.1)) c.as_slice-in-Listed.ensures ∙ subst (λ (reply : Reply). HasPlainNames reply) c.in-Listed.is plain))) c.print_rows.ensures.text
+
+pub returns-in-Fault-clause-framed : goal.returns-in-Fault-clause-framed
+returns-in-Fault-clause-framed c =
+    IfOk-weaker c.of-in-Fault.result (λ (text : List ℕ). text ≡ c.fault_line.result.now) (λ (text : List ℕ). HasPlainNames c.args.reply.now → IsFramed text)
+    (λ text same plain. at (same ∙ c.fault_line.ensures) (fault_framed c.in-Fault.fault)) c.of-in-Fault.ensures
+
+pub returns-in-NoSuchValue-clause-framed : goal.returns-in-NoSuchValue-clause-framed
+returns-in-NoSuchValue-clause-framed c =
+    IfOk-weaker c.of-in-NoSuchValue.result (λ (text : List ℕ). text ≡ line (codes "-1 No such value")) (λ (text : List ℕ). HasPlainNames c.args.reply.now → IsFramed text)
+    (λ text same plain. at same (refusal_framed (codes "No such value") refl)) c.of-in-NoSuchValue.ensures
