@@ -1,6 +1,6 @@
 -- The lists of a command fit the types.
-use Rattle.std.proofs.Common.{◌≡◌, ℕ, zero, suc, ◌+◌, ◌*◌, ◌/◌, ◌^◌, ◌≤◌, ℤ, pos, neg_ℤ, Bool, true, false, ◌&&◌, cond, List, [], ◌∷◌, map, length, Option, Some, None, Result, Ok, Err, refl, sym, ap, subst, ◌∙◌, arith}
-use Rattle.std.specs.Prelude.{◌==◌, nat_abs, nat_le, nat_lt, is_some, is_ok, option_map, IfOk, IsTrue}
+use Rattle.std.proofs.Common.{◌≡◌, ℕ, zero, suc, ◌+◌, ◌*◌, ◌/◌, ◌^◌, ◌≤◌, ℤ, Bool, true, false, ◌&&◌, cond, List, [], ◌∷◌, map, length, Option, Some, None, Result, Ok, Err, refl, sym, ap, subst, ◌∙◌, arith}
+use Rattle.std.specs.Prelude.{◌==◌, nat_abs, nat_le, nat_lt, is_some, option_map, IfOk}
 use Rattle.std.specs.List.{list_all, find, filter_map, cons_option, zip}
 use Rattle.std.specs.Result.{result_ok}
 use Rattle.std.specs.Str.{bytes_eq}
@@ -23,10 +23,9 @@ use Rattle.cd_value.specs.declared.data.Value.{Value}
 use Rattle.cd_value.specs.declared.data.Value.TheVariants.{Counter, Gauge, Derive, Absolute}
 use Rattle.cd_value.specs.declared.data.ValueList.{ValueList}
 use Rattle.cd_sock.specs.declared.command.Command.{Command}
-use Rattle.cd_sock.specs.declared.command.Command.TheVariants as commands
 use Rattle.cd_sock.specs.declared.fault.LineFault.{LineFault}
 use Rattle.cd_sock.specs.declared.fault.LineFault.TheVariants.{LineTooLong, NotUtf8, UnknownCommand, UnknownType, BadOption, BadTime, WrongNumberOfValues, BadValue}
-use Rattle.cd_sock.specs.Values.{change_of, count_of, has_count, has_time, has_values, is_unknown, level_of, reading, Reading, value_at, value_of, value_texts}
+use Rattle.cd_sock.specs.Values.{change_of, count_of, has_count, has_time, has_values, is_unknown, reading, Reading, value_at, value_of, value_texts}
 use Rattle.cd_sock.specs.Arguments.{from_first_plain, is_named, last_interval, leading_options}
 use Rattle.cd_sock.specs.Faults.{fault, need, of_words, with_fault}
 use Rattle.cd_sock.specs.Meaning.{Request, Blank, PutVal, GetVal, ListVal, ListsFit, at_moment, command_at, get_val, has_interval, identifier, is_blank, is_blank_line, is_interval, list_at, list_val, meaning, put_known, put_parts, put_val, request_of, request_of_text, request_of_words, without_return}

@@ -1,10 +1,10 @@
 -- The interval of PUTVAL's options.
-use Rattle.std.proofs.Common.{◌≡◌, ℕ, ◌+◌, ◌-◌, Bool, true, false, ◌&&◌, cond, List, [], ◌∷◌, ◌++◌, length, Option, Some, None, Result, Ok, Err, refl, sym, ap, ◌∙◌, arith, length-append}
+use Rattle.std.proofs.Common.{◌≡◌, ℕ, ◌-◌, Bool, true, false, ◌&&◌, List, [], ◌∷◌, ◌++◌, length, Option, Some, None, Err, refl, ap, ◌∙◌, arith, length-append}
 use Rattle.std.specs.Prelude.{slice_get, ok_or, option_and_then, is_some}
 use Rattle.std.specs.List.{list_all}
 use Rattle.std.proofs.lemmas.List.Folds.{list_all-append}
 use Rattle.cd_text.specs.declared.word.Word.{Word}
-use Rattle.cd_sock.specs.declared.fault.LineFault.TheVariants.{BadOption, BadTime}
+use Rattle.cd_sock.specs.declared.fault.LineFault.TheVariants.{BadTime}
 use Rattle.cd_sock.specs.Arguments.{argument, interval_of, last_interval}
 use Rattle.cd_sock.specs.Meaning.{has_interval, is_interval, interval_in}
 

@@ -1,5 +1,5 @@
 -- Laws of the meaning of a line.
-use Rattle.std.proofs.Common.{◌≡◌, ℕ, Bool, true, false, ◌&&◌, cond, List, [], ◌∷◌, map, length, Option, Some, None, Result, Ok, Err, refl, sym, ap, ◌∙◌, arith}
+use Rattle.std.proofs.Common.{◌≡◌, ℕ, Bool, true, false, cond, List, [], ◌∷◌, map, length, Some, None, Result, Ok, Err, refl, sym, ap, ◌∙◌}
 use Rattle.std.specs.Prelude.{IfOk, nat_lt, nat_le, unwrap_or}
 use Rattle.std.specs.List.{list_all}
 use Rattle.std.proofs.lemmas.List.{length-map}
@@ -8,7 +8,6 @@ use Rattle.cd_reading.specs.First.{◌>>=◌, unless}
 use Rattle.cd_value.specs.declared.data.DataSet.{DataSet}
 use Rattle.cd_value.specs.declared.data.ValueList.{ValueList}
 use Rattle.cd_value.specs.Identifier.{Fields}
-use Rattle.cd_sock.specs.declared.command.Command.{Command}
 use Rattle.cd_sock.specs.declared.command.Command.TheVariants as commands
 use Rattle.cd_sock.specs.declared.fault.LineFault.{LineFault}
 use Rattle.cd_sock.specs.declared.fault.LineFault.TheVariants.{LineTooLong}

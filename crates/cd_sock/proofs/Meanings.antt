@@ -1,5 +1,5 @@
 -- What a line means, read step by step.
-use Rattle.std.proofs.Common.{◌≡◌, ℕ, Bool, true, false, ◌&&◌, cond, not, List, [], ◌∷◌, map, length, Option, Some, None, Result, Ok, Err, refl, sym, ap, ◌∙◌, arith}
+use Rattle.std.proofs.Common.{◌≡◌, ℕ, Bool, true, false, ◌&&◌, cond, List, [], ◌∷◌, map, length, Option, Some, None, Result, Ok, Err, refl, sym, ap, ◌∙◌}
 use Rattle.std.specs.Prelude.{◌==◌, ok_or, unwrap_or, IsUtf8}
 use Rattle.std.specs.Str.{is_utf8}
 use Rattle.std.specs.List.{list_all}
@@ -25,7 +25,7 @@ use Rattle.cd_sock.specs.declared.fault.LineFault.TheVariants.{NotUtf8, UnknownT
 use Rattle.cd_sock.specs.Arguments.{last_interval}
 use Rattle.cd_sock.specs.Faults.{fault, of_words, with_fault}
 use Rattle.cd_sock.specs.Values.{has_count, has_time, has_values, is_whole, reading}
-use Rattle.cd_sock.specs.Meaning.{Request, PutVal, at_moment, command_at, has_interval, identifier, interval_in, is_blank, is_interval, list_at, lists_of, lists_or_fault, put_known, put_parts, request_of_text, request_of_words, value_fault}
+use Rattle.cd_sock.specs.Meaning.{Request, PutVal, at_moment, command_at, has_interval, interval_in, is_blank, is_interval, list_at, lists_or_fault, put_known, put_parts, request_of_text, request_of_words, value_fault}
 
 -- ---- faults that go on
 

@@ -1,10 +1,10 @@
 -- What `parse` gives for the numbers of value words.
-use Rattle.std.proofs.Common.{◌≡◌, ℕ, ◌^◌, ◌<◌, ◌≤◌, ◌≢◌, ℤ, pos, neg_ℤ, Bool, true, false, ◌&&◌, cond, nat_lt, List, length, drop, get_or, Option, Some, None, Result, Ok, Err, refl, sym, ap, ◌∙◌, arith, rules}
+use Rattle.std.proofs.Common.{◌≡◌, ℕ, ◌^◌, ◌<◌, ◌≤◌, ℤ, pos, neg_ℤ, Bool, true, false, ◌&&◌, cond, nat_lt, List, length, drop, get_or, Option, Some, None, Result, Ok, Err, refl, sym, ap, ◌∙◌, rules}
 use Rattle.std.specs.Prelude.{nat_le, slice_index, ◌==◌}
 use Rattle.std.specs.Result.{OkIff, result_ok}
-use Rattle.std.specs.Str.Parse.{ParsesUnsigned, ParsesSigned, digits_value, signed_digits_value, starts_with_minus, without_leading_sign, without_leading_plus}
-use Rattle.std.proofs.lemmas.Bool.{cases_Bool, false_from_ne_true, cond-true, cond-false, and_parts, and_from, ltb-true, lt-ltb, leb-true, le-leb, eqb-true, eqb-false}
-use Rattle.std.proofs.lemmas.Str.Parse.{IsDigitsTest, IsNumeralModel, numerals_by_value, parse_plain, parse_signed_minus, parse_signed_plus, parse_signed_plain}
+use Rattle.std.specs.Str.Parse.{ParsesUnsigned, ParsesSigned, digits_value, starts_with_minus, without_leading_sign}
+use Rattle.std.proofs.lemmas.Bool.{false_from_ne_true, cond-true, cond-false, and_parts, and_from, ltb-true, lt-ltb, leb-true, le-leb, eqb-true, eqb-false}
+use Rattle.std.proofs.lemmas.Str.Parse.{IsNumeralModel, numerals_by_value, parse_plain, parse_signed_minus, parse_signed_plus, parse_signed_plain}
 use Rattle.cd_text.specs.Digits.{are_digits}
 use Rattle.cd_sock.specs.Values.{is_numeral, count_of, fits_64_bits, change_of}
 use mir.Syntax.{w64}

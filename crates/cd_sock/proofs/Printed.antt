@@ -1,10 +1,9 @@
 -- Replies, printed line by line.
-use Rattle.std.proofs.Common.{◌≡◌, ℕ, suc, zero, ◌+◌, ◌<◌, ◌≤◌, Bool, true, false, cond, List, [], ◌∷◌, ◌++◌, length, take, drop, get_or, Option, Some, None, refl, sym, ap, ◌∙◌, arith, append_assoc, add-one}
-use Rattle.std.specs.Prelude.{◌==◌, codes, slice_get}
+use Rattle.std.proofs.Common.{◌≡◌, ℕ, Bool, cond, [], ◌∷◌, ◌++◌, sym, ap, ◌∙◌, append_assoc}
+use Rattle.std.specs.Prelude.{codes}
 use Rattle.std.specs.Fmt.{decimal}
 use Rattle.std.proofs.lemmas.Bool.{eq-eqb, ne_eqb}
-use Rattle.cd_value.specs.declared.data.Rate.{Rate}
-use Rattle.cd_sock.specs.Replies.{line, rate_line, rate_lines, values_found}
+use Rattle.cd_sock.specs.Replies.{line, values_found}
 
 -- the first line of one value, and of another number of values
 pub one_value : (n : ℕ) → n ≡ 1 → decimal n ++ codes " Value found\n" ≡ values_found n

@@ -1,5 +1,5 @@
 -- What a line means, as in collectd-unixsock(5).
-use Rattle.std.specs.Prelude.{◌≡◌, ℕ, ◌-◌, Bool, true, ◌&&◌, ◌||◌, ◌==◌, nat_le, List, [], ◌∷◌, length, take, map, codes, slice_index, Option, Some, None, unwrap_or, ok_or, Result, Ok, Err, if◌then◌else◌, IsTrue}
+use Rattle.std.specs.Prelude.{ℕ, ◌-◌, Bool, ◌&&◌, ◌||◌, ◌==◌, nat_le, List, [], ◌∷◌, length, take, map, codes, slice_index, Option, Some, None, unwrap_or, ok_or, Result, Ok, Err, if◌then◌else◌, IsTrue}
 use Rattle.std.specs.List.{list_all}
 use Rattle.std.specs.Str.{is_utf8}
 use Rattle.cd_reading.specs.First.{◌>>=◌, unless}

@@ -1,7 +1,7 @@
 use Rattle.std.proofs.Common.{◌∙◌, ap, sym, ℕ, Option}
 use Rattle.std.specs.Prelude.{ok_or}
 use Rattle.cd_sock.specs.declared.fault.LineFault.TheVariants.{BadTime}
-use Rattle.cd_sock.proofs.Intervals.{interval_at_last, bad_earlier}
+use Rattle.cd_sock.proofs.Intervals.{interval_at_last}
 use Rattle.cd_sock.proofs.arguments.read_interval.Goals as goal
 
 pub returns : goal.returns

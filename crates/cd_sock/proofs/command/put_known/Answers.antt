@@ -1,4 +1,4 @@
-use Rattle.std.proofs.Common.{◌∙◌, ap, sym, List, ℕ, Result, Ok}
+use Rattle.std.proofs.Common.{◌∙◌, ap, sym, List, Result, Ok}
 use Rattle.std.proofs.lemmas.Result.{err_from_is_err_and}
 use Rattle.cd_value.specs.declared.data.ValueList.{ValueList}
 use Rattle.cd_sock.specs.declared.command.Command.TheVariants.{PutVal}

@@ -3,7 +3,6 @@ use Rattle.cd_reading.specs.Gives.{Gives}
 use Rattle.cd_types.specs.Types.{set_named}
 use Rattle.cd_value.specs.Identifier.{Fields}
 use Rattle.cd_value.specs.declared.data.DataSource.{DataSource}
-use Rattle.cd_sock.specs.declared.command.Command.{Command}
 use Rattle.cd_sock.specs.declared.fault.LineFault.{LineFault}
 use Rattle.cd_sock.specs.Faults.{fault}
 use Rattle.cd_sock.specs.Meaning.{Request, at_moment, put_known, put_parts}

@@ -1,4 +1,4 @@
-use Rattle.std.proofs.Common.{◌≡◌, ◌∙◌, ap, sym, List, ℕ, Result, subst}
+use Rattle.std.proofs.Common.{◌≡◌, ◌∙◌, ap, sym, List, Result, subst}
 use Rattle.std.proofs.lemmas.Result.{err_from_is_err_and}
 use Rattle.cd_reading.specs.First.{◌>>=◌}
 use Rattle.cd_reading.specs.Gives.{Gives}

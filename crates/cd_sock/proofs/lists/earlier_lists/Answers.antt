@@ -1,4 +1,4 @@
-use Rattle.std.proofs.Common.{◌≡◌, ◌∙◌, ap, sym, Bool, List, ℕ, Some, None, cond, Option}
+use Rattle.std.proofs.Common.{◌∙◌, ap, sym, List, ℕ, Some, None, cond}
 use Rattle.cd_text.specs.declared.word.Word.{Word}
 use Rattle.cd_value.specs.declared.data.DataSource.{DataSource}
 use Rattle.cd_value.specs.declared.data.ValueList.{ValueList}

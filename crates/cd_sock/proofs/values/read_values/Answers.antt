@@ -1,6 +1,6 @@
-use Rattle.std.proofs.Common.{◌≡◌, ◌∙◌, ap, sym, option_copied, Option, Some, None, List, ℕ, Bor, ◌+◌, ◌∷◌, [], ◌++◌, drop}
+use Rattle.std.proofs.Common.{◌∙◌, ap, sym, option_copied, Option, Some, List, ℕ, Bor, ◌+◌, drop}
 use Rattle.cd_value.specs.declared.data.Value.{Value}
-use Rattle.cd_sock.specs.Values.{is_colon, texts_in, value_of}
+use Rattle.cd_sock.specs.Values.{texts_in}
 use Rattle.cd_sock.proofs.Readings.{at_last, begins, by_pairs, goes_on, lacks_one, onto_front, pairwise, stops}
 use Rattle.cd_sock.proofs.values.read_values.Goals as goal
 
