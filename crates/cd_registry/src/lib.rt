@@ -13,3 +13,6 @@ pub use kinds::Kinds;
 pub use plug::{Plug, PlugTells};
 pub use probe::{Probe, ProbeTells, Reading, TimedReading};
 pub use telling::Telling;
+
+#[cfg(test)]
+mod tests;

@@ -1,6 +1,6 @@
 // A plug-in that keeps what it got.
-ghost use Rattle.std.specs.Prelude.{◌≡◌, ◌≢◌, ◌⊎◌, ◌++◌, ◌+◌, [], ◌∷◌, Some, None, OnOk, slice_get};
-ghost use Rattle.cd_registry.specs.Told.{calls_after};
+ghost use Rattle.std.specs.Prelude.{◌≡◌, ◌≢◌, ◌⊎◌, ◌++◌, ◌+◌, [], ◌∷◌, Some, None, OnOk, drop, option_copied, slice_get};
+ghost use Rattle.cd_registry.specs.Told.{calls_after, told_after};
 ghost use Rattle.cd_registry.specs.Telling.{answer_at};
 
 use crate::{Answer, AnsweredCall, Call, Plug};
@@ -19,9 +19,12 @@ pub struct Telling {
 }
 
 impl Telling {
-    /// A plug-in that has got no call.
+    ghost use Rattle.cd_registry.specs.Answering.{answers_left};
+
+    /// A plug-in that has got no call, and that will give these answers.
     pub fn new(alloc: Global, mark: u64, answers: Vec<Answer>) -> Self
-        ensures { ⟦<Telling as Plug>⟧.plug_tells result ≡ record { mark = mark; calls = Some [] } }
+        ensures tells { ⟦<Telling as Plug>⟧.plug_tells result ≡ record { mark = mark; calls = Some [] } }
+        ensures answers { answers_left result ≡ answers.items }
     {
         Telling {
             alloc,
@@ -33,7 +36,9 @@ impl Telling {
     }
 
     /// The calls that it got with its answers, oldest first; none after memory was lacking for one.
-    pub fn calls(&self) -> Option<&[AnsweredCall]> {
+    pub fn calls(&self) -> Option<&[AnsweredCall]>
+        ensures { option_copied result ≡ (⟦<Telling as Plug>⟧.plug_tells self.now).calls }
+    {
         match &self.calls {
             Some(calls) => Some(calls.as_slice()),
             None => None,
@@ -90,9 +95,15 @@ fn keep(
 }
 
 impl Plug for Telling {
+    ghost use Rattle.cd_registry.specs.Answering.{answers_left};
+
     ghost plug_tells = { λ t. record { mark = t.mark; calls = t.calls } };
 
-    fn enter(&mut self, call: &Call) -> Answer {
+    fn enter(&mut self, call: &Call) -> Answer
+        ensures tells { ⟦<Telling as Plug>⟧.plug_tells self.new ≡ told_after call.now result (⟦<Telling as Plug>⟧.plug_tells self.old) }
+        ensures answer { (result ≡ answer_at (answers_left self.old) 0) ⊎ (result ≡ Answer.Memory) }
+        ensures order { answers_left self.new ≡ drop 1 (answers_left self.old) }
+    {
         let answer = answer_of(&self.answers, self.entered);
         self.entered = self.entered.saturating_add(1);
         keep(self.alloc, &mut self.calls, call, answer)

@@ -1,10 +1,9 @@
 -- How a run begins and ends.
-use Rattle.std.proofs.Common.{◌≡◌, ◌≤◌, ℕ, Bool, true, false, cond, not, List, [], ◌∷◌, ◌++◌, length, map, Option, None, Some, Ok, Err, IsTrue, IfSome, nat_eq, refl, sym, ap, ◌∙◌, subst, ◌⊎◌, inl, inr, arith}
+use Rattle.std.proofs.Common.{◌≡◌, ℕ, Bool, true, false, List, [], ◌∷◌, length, Some, Ok, Err, IfSome, refl, sym, ap, ◌∙◌, subst, inl, inr}
 use Rattle.std.proofs.lemmas.List.{append-nil}
-use Rattle.std.specs.List.{filter, find}
+use Rattle.std.specs.List.{find}
 use Rattle.std.specs.Option.{option_map}
 use Rattle.std.specs.declared.result.Result.{Result}
-use Rattle.cd_registry.specs.declared.plug.PlugTells.{PlugTells}
 use Rattle.cd_history.specs.declared.entry.Entry.TheVariants as entry
 use Rattle.cd_history.specs.declared.entry.Joining.TheVariants as joining
 use Rattle.cd_history.specs.declared.entry.RegisterFault.{RegisterFault}
@@ -12,29 +11,40 @@ use Rattle.cd_history.specs.declared.entry.RegisterFault.TheVariants as refused
 use Rattle.cd_history.specs.declared.entry.Why.TheVariants as why
 use Rattle.cd_history.specs.declared.given.Given.{Given}
 use Rattle.cd_history.specs.History.{History, ◌▸◌, handles, kept}
-use Rattle.cd_history.specs.Registrations.{Registration, registrations, is_text, has_kind, live, closed_by, WRITE}
+use Rattle.cd_history.specs.Registrations.{Registration, registrations, is_text, live, closed_by}
 use Rattle.cd_history.specs.Leases.{answers_to}
 use Rattle.cd_daemon.specs.declared.Opening.{Opening}
+use Rattle.cd_cache.specs.declared.entry.CacheEntry.{CacheEntry}
 use Rattle.cd_daemon.specs.Calls.{calls_to}
-use Rattle.cd_daemon.specs.Answers.{is_reserved, register_answer, close_answer, retire_answer}
+use Rattle.cd_daemon.specs.Answers.{is_reserved, register_answer, close_answer}
 use Rattle.cd_daemon.specs.Legal.{IsLegal}
-use Rattle.cd_transcript.specs.Transcripts.{Meaning, of_lines}
-use Rattle.cd_transcript.specs.LineRuns.{OnShelf, registered, returned, Works, nothing, WorksUntilIdle, Serves, closed, IsLineRun}
+use Rattle.cd_transcript.specs.Transcripts.{Said, of_lines}
+use Rattle.cd_transcript.specs.LineRuns.{OnShelf, registered, returned, nothing, Serves, closed}
 use Rattle.cd_transcript.proofs.Written.{closed-of_lines}
-use Rattle.cd_serve.specs.Standing.{Standing, IsWriter, registration_of, AreOf, Writes, RunsOn}
+use Rattle.cd_serve.specs.Standing.{Standing, registration_of, AreOf, Writes, RunsOn}
 use Rattle.cd_serve.specs.Runs.{IsRun}
 use Rattle.cd_serve.proofs.Steps.{works_on, same_number, live-is, all_handled}
 use Rattle.cd_serve.proofs.Shelves.{returned-same, bytes_same}
 
 -- ---- the beginning
 
-begun : (K : Opening) → Standing K false [] [] []
+begun : (K : Opening) → Standing K false [] [] [] []
 begun K = record {
-    legal = tt; is_so = refl; registers = refl; unclosed = λ r. refl; unretired = λ r. refl; home = λ r. refl;
-    earlier = []; queued = refl; counted = refl; taken = λ r. refl; answered = λ r. refl;
-  }
+  legal = tt;
+  is_so = refl;
+  registers = refl;
+  unclosed = λ r. refl;
+  unretired = λ r. refl;
+  home = λ r. refl;
+  earlier = [];
+  queued = refl;
+  counted = refl;
+  taken = λ r. refl;
+  answered = λ r. refl;
+  caches = refl;
+}
 
-pub run_begins_empty : (K : Opening) → RunsOn K [] [] false [] (registered [] [])
+pub run_begins_empty : (K : Opening) → RunsOn K [] [] false [] [] (registered [] [])
 run_begins_empty K = record { regs = []; standing = begun K; of_shelf = refl; writes = refl; back = refl }
 
 module _ (K : Opening) (plug : OnShelf) where
@@ -42,48 +52,81 @@ module _ (K : Opening) (plug : OnShelf) where
   with_reply reply = [] ▸ entry.Register 0 plug.name (joining.Plug plug.kinds [] plug.tells) reply
 
   -- a reserved name is refused
-  pub run_begins_refused : is_reserved plug.name ≡ true → RunsOn K (plug ∷ []) (plug ∷ []) false [] (registered (plug ∷ []) [])
+  pub run_begins_refused : is_reserved plug.name ≡ true → RunsOn K (plug ∷ []) (plug ∷ []) false [] [] (registered (plug ∷ []) [])
   run_begins_refused taken =
-      subst (λ (reply : Result ℕ RegisterFault). RunsOn K (plug ∷ []) (plug ∷ []) false [] (with_reply reply)) (sym is) (record {
+      subst (λ (reply : Result ℕ RegisterFault). RunsOn K (plug ∷ []) (plug ∷ []) false [] [] (with_reply reply)) (sym is) (record {
         regs = [];
         standing = record {
-          legal = (tt, sym is); is_so = refl; registers = refl; unclosed = λ r. refl; unretired = λ r. refl; home = λ r. refl;
-          earlier = []; queued = refl; counted = refl; taken = λ r. refl; answered = λ r. refl;
+          legal = (tt, sym is);
+          is_so = refl;
+          registers = refl;
+          unclosed = λ r. refl;
+          unretired = λ r. refl;
+          home = λ r. refl;
+          earlier = [];
+          queued = refl;
+          counted = refl;
+          taken = λ r. refl;
+          answered = λ r. refl;
+          caches = refl;
         };
-        of_shelf = inl refl; writes = refl; back = refl;
+        of_shelf = inl refl;
+        writes = refl;
+        back = refl;
       })
     where
       is : register_answer [] plug.name ≡ Err refused.Reserved
       is = rw taken refl
 
   pub run_begins : (writer : Bool) → is_reserved plug.name ≡ false → Writes writer (registration_of plug ∷ [])
-      → RunsOn K (plug ∷ []) (plug ∷ []) writer [] (registered (plug ∷ []) [])
+      → RunsOn K (plug ∷ []) (plug ∷ []) writer [] [] (registered (plug ∷ []) [])
   run_begins writer free writes =
-      subst (λ (reply : Result ℕ RegisterFault). RunsOn K (plug ∷ []) (plug ∷ []) writer [] (with_reply reply)) (sym is) (record {
+      subst (λ (reply : Result ℕ RegisterFault). RunsOn K (plug ∷ []) (plug ∷ []) writer [] [] (with_reply reply)) (sym is) (record {
         regs = registration_of plug ∷ [];
         standing = record {
-          legal = (tt, sym is); is_so = refl; registers = refl; unclosed = λ r. refl; unretired = λ r. refl; home = λ r. refl;
-          earlier = []; queued = refl; counted = refl; taken = λ r. refl; answered = λ r. refl;
+          legal = (tt, sym is);
+          is_so = refl;
+          registers = refl;
+          unclosed = λ r. refl;
+          unretired = λ r. refl;
+          home = λ r. refl;
+          earlier = [];
+          queued = refl;
+          counted = refl;
+          taken = λ r. refl;
+          answered = λ r. refl;
+          caches = refl;
         };
-        of_shelf = inr refl; writes = writes; back = told_alike;
+        of_shelf = inr refl;
+        writes = writes;
+        back = told_alike;
       })
     where
       is : register_answer [] plug.name ≡ Ok 0
       is = rw free refl
+
       told_alike : plug ∷ [] ≡ returned (with_reply (Ok 0)) (plug ∷ [])
       told_alike = rw (bytes_same plug.name) refl
 
 -- ---- the end
 
-stopped_standing : {K : Opening} {regs : List Registration} {P : History} → Standing K false regs [] P → Standing K true regs [] (P ▸ entry.Stop 0 why.ControlEnd)
+stopped_standing : {K : Opening} {regs : List Registration} {cache : List CacheEntry} {P : History} → Standing K false regs [] cache P → Standing K true regs [] cache (P ▸ entry.Stop 0 why.ControlEnd)
 stopped_standing {P = P} s = record {
-    legal = (s.legal, tt); is_so = refl; registers = s.registers; unclosed = s.unclosed; unretired = s.unretired; home = s.home;
-    earlier = s.earlier; queued = s.queued; counted = s.counted;
-    taken = λ r. s.taken r ∙ ap length (sym (append-nil (calls_to r P)));
-    answered = λ r. s.answered r ∙ ap length (sym (append-nil (calls_to r P)));
-  }
+  legal = (s.legal, tt);
+  is_so = refl;
+  registers = s.registers;
+  unclosed = s.unclosed;
+  unretired = s.unretired;
+  home = s.home;
+  earlier = s.earlier;
+  queued = s.queued;
+  counted = s.counted;
+  taken = λ r. s.taken r ∙ ap length (sym (append-nil (calls_to r P)));
+  answered = λ r. s.answered r ∙ ap length (sym (append-nil (calls_to r P)));
+  caches = s.caches;
+}
 
-module _ {K : Opening} (g : Registration) (Q : History) (s : Standing K true (g ∷ []) [] Q) where
+module _ {K : Opening} {cache : List CacheEntry} (g : Registration) (Q : History) (s : Standing K true (g ∷ []) [] cache Q) where
   abbrev after_close : History
   after_close = Q ▸ entry.Close 0 g.name (close_answer Q g.name)
 
@@ -99,13 +142,13 @@ module _ {K : Opening} (g : Registration) (Q : History) (s : Standing K true (g 
   handed_out_legal = ((s.legal, refl), (refl, closed_by_us))
 
 -- the registrations of a shelf of at most one plug-in are closed and handed out as a one-thread daemon does it
-few_handed_out : {K : Opening} (opened : List OnShelf) (regs : List Registration) (Q : History) → AreOf opened regs → Standing K true regs [] Q → IsLegal K (closed regs Q)
-few_handed_out {K = K} [] regs Q of_shelf s = let P : List Registration → Type 0 = λ gs. IsLegal K (closed gs Q) in subst P (sym of_shelf) s.legal
-few_handed_out {K = K} (plug ∷ []) regs Q of_shelf s =
+few_handed_out : {K : Opening} {cache : List CacheEntry} (opened : List OnShelf) (regs : List Registration) (Q : History) → AreOf opened regs → Standing K true regs [] cache Q → IsLegal K (closed regs Q)
+few_handed_out {K = K} {cache = cache} [] regs Q of_shelf s = let P : List Registration → Type 0 = λ gs. IsLegal K (closed gs Q) in subst P (sym of_shelf) s.legal
+few_handed_out {K = K} {cache = cache} (plug ∷ []) regs Q of_shelf s =
     let P : List Registration → Type 0 = λ gs. IsLegal K (closed gs Q) in
     elim of_shelf [
       | inl is ↦ subst P (sym is) s.legal
-      | inr is ↦ subst P (sym is) (handed_out_legal (registration_of plug) Q (let S : List Registration → Type 0 = λ gs. Standing K true gs [] Q in subst S is s))
+      | inr is ↦ subst P (sym is) (handed_out_legal (registration_of plug) Q (let S : List Registration → Type 0 = λ gs. Standing K true gs [] cache Q in subst S is s))
     ]
 few_handed_out (plug ∷ (next ∷ plugs)) regs Q of_shelf s = absurd of_shelf
 
@@ -136,20 +179,26 @@ after_stop P = P ▸ entry.Stop 0 why.ControlEnd
 abbrev pub at_end : History → History
 at_end P = closed (live (after_stop P)) (after_stop P)
 
-pub run_ends : {Line : Type 0} (says : Line → ℕ → Meaning) {K : Opening} {opened shelf : List OnShelf} {writer : Bool} {lines : List Line} {given : List Given} (P : History)
-    → RunsOn K opened shelf writer [] P → Serves says lines (registered opened []) given P
+pub run_ends : {Line : Type 0} (says : Line → ℕ → Said) {K : Opening} {opened shelf : List OnShelf} {writer : Bool} {cache : List CacheEntry} {lines : List Line} {given : List Given} (P : History)
+    → RunsOn K opened shelf writer [] cache P → Serves K says lines (registered opened []) given P
     → IsRun K says opened shelf lines given (at_end P)
-run_ends says {K = K} {opened = opened} {given = given} P s serves = record {
-    legal = few_handed_out opened (live (after_stop P)) (after_stop P) (let A : List Registration → Type 0 = AreOf opened in subst A (sym regs) s.of_shelf)
-      (let S : List Registration → Type 0 = λ gs. Standing K true gs [] (after_stop P) in subst S (sym regs) (stopped_standing s.standing));
-    made = record {
-      served = P; stopped = after_stop P; given_lines = given; given_last = [];
-      serves = serves; stops = works_on (stopped_standing s.standing) nothing; hands_out = refl; given_is = sym (append-nil given);
-    };
-    handled = closed-handles (live (after_stop P)) (after_stop P) ∙ all_handled s.standing ∙ ap length (sym (closed-kept (live (after_stop P)) (after_stop P)));
-    told = s.back ∙ sym (returned-same P (at_end P) (closed-registrations (live (after_stop P)) (after_stop P))
+run_ends says {K = K} {opened = opened} {cache = cache} {given = given} P s serves = record {
+  legal = few_handed_out opened (live (after_stop P)) (after_stop P) (let A : List Registration → Type 0 = AreOf opened in subst A (sym regs) s.of_shelf)
+      (let S : List Registration → Type 0 = λ gs. Standing K true gs [] cache (after_stop P) in subst S (sym regs) (stopped_standing s.standing));
+  made = record {
+    served = P;
+    stopped = after_stop P;
+    given_lines = given;
+    given_last = [];
+    serves = serves;
+    stops = works_on (stopped_standing s.standing) nothing;
+    hands_out = refl;
+    given_is = sym (append-nil given);
+  };
+  handled = closed-handles (live (after_stop P)) (after_stop P) ∙ all_handled s.standing ∙ ap length (sym (closed-kept (live (after_stop P)) (after_stop P)));
+  told = s.back ∙ sym (returned-same P (at_end P) (closed-registrations (live (after_stop P)) (after_stop P))
       (λ r. closed-calls_to (live (after_stop P)) (after_stop P) r ∙ append-nil (calls_to r P)) (closed-answers_to (live (after_stop P)) (after_stop P)) opened);
-  }
+}
   where
     regs : live (after_stop P) ≡ s.regs
     regs = live-is (stopped_standing s.standing)

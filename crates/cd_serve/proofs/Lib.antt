@@ -1,3 +1,9 @@
 pub mod Steps
 pub mod Shelves
 pub mod Ends
+pub mod Gifts
+pub mod Working
+pub mod Serving
+pub mod Speaking
+pub mod Cutting
+pub mod Promises

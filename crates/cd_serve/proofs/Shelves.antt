@@ -1,5 +1,5 @@
 -- What the plug-ins of a run tell, step by step.
-use Rattle.std.proofs.Common.{◌≡◌, ◌+◌, ℕ, Bool, true, false, cond, List, [], ◌∷◌, ◌++◌, length, map, Option, None, Some, IsTrue, nat_eq, refl, sym, ap, ◌∙◌, subst, append_assoc, arith, length-append, ◌⊎◌, inl, inr}
+use Rattle.std.proofs.Common.{◌≡◌, ℕ, Bool, true, false, List, [], ◌∷◌, ◌++◌, length, map, Option, Some, IsTrue, refl, sym, ap, ◌∙◌, arith, inr}
 use Rattle.std.proofs.lemmas.List.{append-nil}
 use Rattle.std.specs.List.{filter, flat_map, list_all}
 use Rattle.std.specs.Str.{bytes_eq}
@@ -12,17 +12,17 @@ use Rattle.cd_registry.specs.declared.plug.PlugTells.{PlugTells}
 use Rattle.cd_registry.specs.Told.{told_after, told_after_all}
 use Rattle.cd_types.specs.Types.{fits}
 use Rattle.cd_history.specs.declared.entry.Entry.TheVariants as entry
-use Rattle.cd_history.specs.declared.given.Given.{Given}
-use Rattle.cd_history.specs.declared.given.Given.TheVariants.{Now, Word, Answered}
 use Rattle.cd_history.specs.History.{History, ◌▸◌}
-use Rattle.cd_history.specs.Registrations.{Registration, registrations, listening, is_text, has_kind, live, WRITE}
+use Rattle.cd_history.specs.Registrations.{Registration, registrations, listening, is_text, has_kind, WRITE}
 use Rattle.cd_history.specs.Leases.{answers_to}
 use Rattle.cd_daemon.specs.declared.Opening.{Opening}
+use Rattle.cd_cache.specs.declared.entry.CacheEntry.{CacheEntry}
+use Rattle.cd_daemon.specs.Cached.{stored}
 use Rattle.cd_daemon.specs.Calls.{calls_to, answered, answered_as, answered_calls}
-use Rattle.cd_daemon.specs.Answers.{accept_answer, handle_answer}
-use Rattle.cd_transcript.specs.LineRuns.{OnShelf, returned, Works, nothing, called, handled, WorksUntilIdle}
-use Rattle.cd_serve.specs.Standing.{Standing, IsWriter, registration_of, AreOf, Writes, RunsOn, called_first}
-use Rattle.cd_serve.proofs.Steps.{accepts, handles_unwritten, handles_written, works_written, after_done, calls_to-after_done, with_write, none_ready, one_queued, works_on, same_number, live-is, calls_to-unwritten}
+use Rattle.cd_daemon.specs.Answers.{accept_answer, handle_answer, query_answer}
+use Rattle.cd_transcript.specs.LineRuns.{OnShelf, returned}
+use Rattle.cd_serve.specs.Standing.{Standing, IsWriter, registration_of, RunsOn, called_first}
+use Rattle.cd_serve.proofs.Steps.{accepts, asks, handles_unwritten, handles_written, after_done, calls_to-after_done, same_number, live-is, calls_to-unwritten}
 
 pub bytes_same : (xs : List ℕ) → bytes_eq xs xs ≡ true
 bytes_same [] = refl
@@ -42,8 +42,8 @@ answered_as-same : (P Q : History) → registrations Q ≡ registrations P → (
 answered_as-same P Q regs made given name =
     ap (λ (gs : List Registration). flat_map (λ g. answered g.number Q) (filter (λ g. is_text g.name name) gs)) regs
     ∙ flat_map-same (λ (g : Registration). answered g.number Q) (λ (g : Registration). answered g.number P)
-        (λ g. ap (λ (cs : List Call). answered_calls cs (answers_to g.number Q)) (made g.number) ∙ ap (answered_calls (calls_to g.number P)) (given g.number))
-        (filter (λ g. is_text g.name name) (registrations P))
+    (λ g. ap (λ (cs : List Call). answered_calls cs (answers_to g.number Q)) (made g.number) ∙ ap (answered_calls (calls_to g.number P)) (given g.number))
+    (filter (λ g. is_text g.name name) (registrations P))
 
 pub returned-same : (P Q : History) → registrations Q ≡ registrations P → ((r : ℕ) → calls_to r Q ≡ calls_to r P) → ((r : ℕ) → answers_to r Q ≡ answers_to r P)
     → (opened : List OnShelf) → returned Q opened ≡ returned P opened
@@ -73,63 +73,75 @@ own-answered P g name same regs =
     ∙ rw (same, bytes_same name, append-nil (answered g.number P)) refl
 
 -- a write that was answered is told behind the others
-pub told-written : (K : Opening) (g : Registration) (P : History) (v : ValueList) (queue : List ValueList) (now : ℕ) (answer : Answer) (name : List ℕ) (t : PlugTells)
-    → Standing K false (g ∷ []) (v ∷ queue) P → IsWriter g → g.name ≡ name
-    → told_after_all (answered_as name (after_done K false g P v queue now answer)) t ≡ told_after (calls.Write v) answer (told_after_all (answered_as name P) t)
-told-written K g P v queue now answer name t s w same =
-    ap (λ (xs : List AnsweredCall). told_after_all xs t) (own-answered (after_done K false g P v queue now answer) g name same s.registers ∙ now_answered)
+pub told-written : (K : Opening) (g : Registration) (P : History) (v : ValueList) (queue : List ValueList) (cache : List CacheEntry) (now : ℕ) (answer : Answer) (name : List ℕ) (t : PlugTells)
+    → Standing K false (g ∷ []) (v ∷ queue) cache P → IsWriter g → g.name ≡ name
+    → told_after_all (answered_as name (after_done K false g P v queue cache now answer)) t ≡ told_after (calls.Write v) answer (told_after_all (answered_as name P) t)
+told-written K g P v queue cache now answer name t s w same =
+    ap (λ (xs : List AnsweredCall). told_after_all xs t) (own-answered (after_done K false g P v queue cache now answer) g name same s.registers ∙ now_answered)
     ∙ told-more (answered g.number P) (calls.Write v) answer t
     ∙ ap (λ (xs : List AnsweredCall). told_after (calls.Write v) answer (told_after_all xs t)) (sym (own-answered P g name same s.registers))
   where
-    made : calls_to g.number (after_done K false g P v queue now answer) ≡ calls_to g.number P ++ calls.Write v ∷ []
-    made = calls_to-after_done K false g P v queue now answer s w g.number ∙ rw (same_number g.number) refl
-    given : answers_to g.number (after_done K false g P v queue now answer) ≡ answers_to g.number P ++ answer ∷ []
+    made : calls_to g.number (after_done K false g P v queue cache now answer) ≡ calls_to g.number P ++ calls.Write v ∷ []
+    made = calls_to-after_done K false g P v queue cache now answer s w g.number ∙ rw (same_number g.number) refl
+
+    given : answers_to g.number (after_done K false g P v queue cache now answer) ≡ answers_to g.number P ++ answer ∷ []
     given = rw (same_number g.number) refl
-    now_answered : answered g.number (after_done K false g P v queue now answer) ≡ answered g.number P ++ record { call = calls.Write v; answer = answer } ∷ []
+
+    now_answered : answered g.number (after_done K false g P v queue cache now answer) ≡ answered g.number P ++ record { call = calls.Write v; answer = answer } ∷ []
     now_answered =
-      ap (λ (cs : List Call). answered_calls cs (answers_to g.number (after_done K false g P v queue now answer))) made
-      ∙ ap (answered_calls (calls_to g.number P ++ calls.Write v ∷ [])) given
-      ∙ answered_calls-more (calls_to g.number P) (answers_to g.number P) (calls.Write v) answer (s.answered g.number)
+        ap (λ (cs : List Call). answered_calls cs (answers_to g.number (after_done K false g P v queue cache now answer))) made
+        ∙ ap (answered_calls (calls_to g.number P ++ calls.Write v ∷ [])) given
+        ∙ answered_calls-more (calls_to g.number P) (answers_to g.number P) (calls.Write v) answer (s.answered g.number)
 
 -- ---- the steps of a run
 
-pub run_accepts : {K : Opening} {opened shelf : List OnShelf} {writer : Bool} {P : History} (lists : List ValueList) (words : List ℕ) (now : ℕ)
-    → RunsOn K opened shelf writer [] P → IsTrue (list_all (fits K.types) lists) → length words ≡ length lists
-    → RunsOn K opened shelf writer lists (P ▸ entry.Accept 0 lists words now (accept_answer P lists))
+pub run_accepts : {K : Opening} {opened shelf : List OnShelf} {writer : Bool} {cache : List CacheEntry} {P : History} (lists : List ValueList) (words : List ℕ) (now : ℕ)
+    → RunsOn K opened shelf writer [] cache P → IsTrue (list_all (fits K.types) lists) → length words ≡ length lists
+    → RunsOn K opened shelf writer lists cache (P ▸ entry.Accept 0 lists words now (accept_answer P lists))
 run_accepts {opened = opened} {P = P} lists words now s fit many = record {
-    regs = s.regs;
-    standing = accepts lists words now s.standing fit many;
-    of_shelf = s.of_shelf;
-    writes = s.writes;
-    back = s.back ∙ sym (returned-same P (P ▸ entry.Accept 0 lists words now (accept_answer P lists)) refl (λ r. append-nil (calls_to r P)) (λ r. refl) opened);
-  }
+  regs = s.regs;
+  standing = accepts lists words now s.standing fit many;
+  of_shelf = s.of_shelf;
+  writes = s.writes;
+  back = s.back ∙ sym (returned-same P (P ▸ entry.Accept 0 lists words now (accept_answer P lists)) refl (λ r. append-nil (calls_to r P)) (λ r. refl) opened);
+}
 
 -- nobody is written to
-pub nobody_listens : {K : Opening} {opened shelf : List OnShelf} {queue : List ValueList} {P : History} → RunsOn K opened shelf false queue P → listening WRITE P ≡ []
+pub nobody_listens : {K : Opening} {opened shelf : List OnShelf} {queue : List ValueList} {cache : List CacheEntry} {P : History} → RunsOn K opened shelf false queue cache P → listening WRITE P ≡ []
 nobody_listens s = ap (λ (gs : List Registration). map (λ g. g.number) (filter (has_kind WRITE) gs)) (live-is s.standing) ∙ ap (map (λ (g : Registration). g.number)) s.writes
 
-pub run_handles_unwritten : {K : Opening} {opened shelf : List OnShelf} {queue : List ValueList} {P : History} (v : ValueList) (now : ℕ)
-    → RunsOn K opened shelf false (v ∷ queue) P
-    → RunsOn K opened shelf false queue (P ▸ entry.Handle 0 now (handle_answer P now))
-run_handles_unwritten {opened = opened} {queue = queue} {P = P} v now s = record {
-    regs = s.regs;
-    standing = handles_unwritten v queue now s.standing (nobody_listens s);
-    of_shelf = s.of_shelf;
-    writes = s.writes;
-    back = s.back ∙ sym (returned-same P (P ▸ entry.Handle 0 now (handle_answer P now)) refl (calls_to-unwritten P now (nobody_listens s)) (λ r. refl) opened);
-  }
+pub run_handles_unwritten : {K : Opening} {opened shelf : List OnShelf} {queue : List ValueList} {cache : List CacheEntry} {P : History} (v : ValueList) (now : ℕ)
+    → RunsOn K opened shelf false (v ∷ queue) cache P
+    → RunsOn K opened shelf false queue (stored K (Some v) now cache) (P ▸ entry.Handle 0 now (handle_answer K P))
+run_handles_unwritten {K = K} {opened = opened} {queue = queue} {P = P} v now s = record {
+  regs = s.regs;
+  standing = handles_unwritten v queue now s.standing (nobody_listens s);
+  of_shelf = s.of_shelf;
+  writes = s.writes;
+  back = s.back ∙ sym (returned-same P (P ▸ entry.Handle 0 now (handle_answer K P)) refl (calls_to-unwritten K P now (nobody_listens s)) (λ r. refl) opened);
+}
 
 -- a written list leaves this history of a run with one plug-in
-pub run_handles_written : (K : Opening) (plug : OnShelf) (shelf : List OnShelf) (queue : List ValueList) (P : History) (v : ValueList) (now : ℕ) (answer : Answer)
-    → RunsOn K (plug ∷ []) shelf true (v ∷ queue) P → Standing K false (registration_of plug ∷ []) (v ∷ queue) P → IsWriter (registration_of plug)
-    → RunsOn K (plug ∷ []) (called_first (calls.Write v) answer shelf) true queue (after_done K false (registration_of plug) P v queue now answer)
-run_handles_written K plug shelf queue P v now answer s standing writer = record {
-    regs = registration_of plug ∷ [];
-    standing = handles_written K false (registration_of plug) P v queue now answer standing writer;
-    of_shelf = inr refl;
-    writes = writer;
-    back =
+pub run_handles_written : (K : Opening) (plug : OnShelf) (shelf : List OnShelf) (queue : List ValueList) (cache : List CacheEntry) (P : History) (v : ValueList) (now : ℕ) (answer : Answer)
+    → RunsOn K (plug ∷ []) shelf true (v ∷ queue) cache P → Standing K false (registration_of plug ∷ []) (v ∷ queue) cache P → IsWriter (registration_of plug)
+    → RunsOn K (plug ∷ []) (called_first (calls.Write v) answer shelf) true queue (stored K (Some v) now cache) (after_done K false (registration_of plug) P v queue cache now answer)
+run_handles_written K plug shelf queue cache P v now answer s standing writer = record {
+  regs = registration_of plug ∷ [];
+  standing = handles_written K false (registration_of plug) P v queue cache now answer standing writer;
+  of_shelf = inr refl;
+  writes = writer;
+  back =
       ap (called_first (calls.Write v) answer) s.back
       ∙ ap (λ (t : PlugTells). let row : OnShelf = record plug { tells = t } in row ∷ [])
-          (sym (told-written K (registration_of plug) P v queue now answer plug.name plug.tells standing writer refl));
-  }
+      (sym (told-written K (registration_of plug) P v queue cache now answer plug.name plug.tells standing writer refl));
+}
+
+pub run_asks : {K : Opening} {opened shelf : List OnShelf} {writer : Bool} {cache : List CacheEntry} {P : History} (name : Option (List ℕ))
+    → RunsOn K opened shelf writer [] cache P → RunsOn K opened shelf writer [] cache (P ▸ entry.Query 0 name (query_answer K P name))
+run_asks {K = K} {opened = opened} {P = P} name s = record {
+  regs = s.regs;
+  standing = asks name s.standing;
+  of_shelf = s.of_shelf;
+  writes = s.writes;
+  back = s.back ∙ sym (returned-same P (P ▸ entry.Query 0 name (query_answer K P name)) refl (λ r. append-nil (calls_to r P)) (λ r. refl) opened);
+}

@@ -1,7 +1,7 @@
 -- The steps of a daemon with at most one plug-in.
-use Rattle.std.proofs.Common.{◌≡◌, ◌≢◌, ◌+◌, ◌-◌, ◌<◌, ◌≤◌, ℕ, suc, Bool, true, false, not, ◌&&◌, ◌||◌, cond, List, [], ◌∷◌, ◌++◌, length, map, Option, None, Some, Ok, Err, IsTrue, nat_eq, nat_le, get_or, refl, sym, ap, ◌∙◌, subst, append_assoc, arith, length-append}
+use Rattle.std.proofs.Common.{◌≡◌, ◌+◌, ◌<◌, ℕ, Bool, true, false, not, ◌&&◌, cond, List, [], ◌∷◌, ◌++◌, length, map, Option, None, Some, Ok, IsTrue, nat_eq, nat_le, refl, sym, ap, ◌∙◌, subst, append_assoc, arith, length-append}
 use Rattle.std.proofs.lemmas.List.{append-nil}
-use Rattle.std.proofs.lemmas.Option.{slice_get-get_or, slice_get_past}
+use Rattle.std.proofs.lemmas.Option.{slice_get-get_or}
 use Rattle.std.proofs.Math.Seq.{get_or-append_seam}
 use Rattle.std.specs.List.{filter, find, list_all, slice_get}
 use Rattle.cd_value.specs.declared.data.ValueList.{ValueList}
@@ -10,18 +10,18 @@ use Rattle.cd_registry.specs.declared.calls.Answer.{Answer}
 use Rattle.cd_registry.specs.declared.calls.Call.{Call}
 use Rattle.cd_registry.specs.declared.calls.Call.TheVariants as calls
 use Rattle.cd_types.specs.Types.{fits}
-use Rattle.cd_history.specs.declared.entry.Entry.{Entry}
 use Rattle.cd_history.specs.declared.entry.Entry.TheVariants as entry
 use Rattle.cd_history.specs.declared.given.Given.{Given}
-use Rattle.cd_history.specs.declared.given.Given.TheVariants.{Now, Word, Answered}
-use Rattle.cd_history.specs.History.{History, ◌▸◌, handles, is_stopped, kept, kept_of}
-use Rattle.cd_history.specs.Registrations.{Registration, registrations, live, listening, is_closed, is_retired, is_plug, has_kind, WRITE}
+use Rattle.cd_history.specs.declared.given.Given.TheVariants.{Now, Answered}
+use Rattle.cd_history.specs.History.{History, ◌▸◌, handles, kept, kept_of}
+use Rattle.cd_history.specs.Registrations.{Registration, registrations, live, listening, is_closed, is_retired, is_plug, WRITE}
 use Rattle.cd_history.specs.Leases.{takes, answers_to, taken_by}
 use Rattle.cd_daemon.specs.declared.Opening.{Opening}
-use Rattle.cd_daemon.specs.Calls.{calls_to, pending, next_list, sent_to, writes_of, Post}
-use Rattle.cd_daemon.specs.Answers.{accept_answer, handle_answer, ready, is_ready, next_call, is_idle, unless_stopped}
-use Rattle.cd_daemon.specs.Legal.{IsLegal, Allowed}
-use Rattle.cd_transcript.specs.LineRuns.{Works, nothing, called, handled, WorksUntilIdle}
+use Rattle.cd_cache.specs.declared.entry.CacheEntry.{CacheEntry}
+use Rattle.cd_daemon.specs.Cached.{cache_after, stored}
+use Rattle.cd_daemon.specs.Calls.{calls_to, pending, next_list, sent_to, writes_of}
+use Rattle.cd_daemon.specs.Answers.{accept_answer, handle_answer, query_answer, ready, is_ready, next_call, is_idle}
+use Rattle.cd_transcript.specs.LineRuns.{Works, called, handled, WorksUntilIdle}
 use Rattle.cd_serve.specs.Standing.{Standing, IsWriter}
 
 -- ---- lists
@@ -40,32 +40,32 @@ same_number n = grind arith
 
 -- ---- nobody is ready where no call waits
 
-none_pending : {K : Opening} {stopped : Bool} {regs : List Registration} {queue : List ValueList} {P : History} → Standing K stopped regs queue P → (r : ℕ) → pending P r ≡ 0
+none_pending : {K : Opening} {stopped : Bool} {regs : List Registration} {queue : List ValueList} {cache : List CacheEntry} {P : History} → Standing K stopped regs queue cache P → (r : ℕ) → pending P r ≡ 0
 none_pending {P = P} s r = omega (arith, s.taken r)
 
-not_ready : {K : Opening} {stopped : Bool} {regs : List Registration} {queue : List ValueList} {P : History} → Standing K stopped regs queue P → (g : Registration) → is_ready P g ≡ false
+not_ready : {K : Opening} {stopped : Bool} {regs : List Registration} {queue : List ValueList} {cache : List CacheEntry} {P : History} → Standing K stopped regs queue cache P → (g : Registration) → is_ready P g ≡ false
 not_ready {P = P} s g = rw (none_pending s g.number) (last (is_plug g.joining) (not (is_retired g.number P)) _)
   where
     last : (a b c : Bool) → (a && b && c && false) ≡ false
     last a b c = grind arith
 
-pub none_ready : {K : Opening} {stopped : Bool} {regs : List Registration} {queue : List ValueList} {P : History} → Standing K stopped regs queue P → ready P ≡ None
+pub none_ready : {K : Opening} {stopped : Bool} {regs : List Registration} {queue : List ValueList} {cache : List CacheEntry} {P : History} → Standing K stopped regs queue cache P → ready P ≡ None
 none_ready {P = P} s = found (registrations P)
   where
     found : (gs : List Registration) → elim (find (is_ready P) gs) as (λ o. Option ℕ) [ None ↦ None | Some g ↦ Some g.number ] ≡ None
     found [] = refl
     found (g ∷ gs) = rw (not_ready s g) (found gs)
 
-idle : {K : Opening} {stopped : Bool} {regs : List Registration} {P : History} → Standing K stopped regs [] P → IsTrue (is_idle P)
+idle : {K : Opening} {stopped : Bool} {regs : List Registration} {cache : List CacheEntry} {P : History} → Standing K stopped regs [] cache P → IsTrue (is_idle P)
 idle {P = P} s = rw (none_ready s, s.queued, append-nil s.earlier, s.counted) (within (length s.earlier))
   where
     within : (n : ℕ) → IsTrue (nat_le n n && true)
     within n = grind arith
 
-pub works_on : {K : Opening} {stopped : Bool} {regs : List Registration} {P Q : History} {given : List Given} → Standing K stopped regs [] Q → Works P given Q → WorksUntilIdle P given Q
+pub works_on : {K : Opening} {stopped : Bool} {regs : List Registration} {cache : List CacheEntry} {P Q : History} {given : List Given} → Standing K stopped regs [] cache Q → Works K P given Q → WorksUntilIdle K P given Q
 works_on s w = record { works = w; idle = idle s }
 
-pub all_handled : {K : Opening} {stopped : Bool} {regs : List Registration} {P : History} → Standing K stopped regs [] P → handles P ≡ length (kept P)
+pub all_handled : {K : Opening} {stopped : Bool} {regs : List Registration} {cache : List CacheEntry} {P : History} → Standing K stopped regs [] cache P → handles P ≡ length (kept P)
 all_handled s = s.counted ∙ ap length (sym (s.queued ∙ append-nil s.earlier))
 
 -- ---- an entry that makes no call
@@ -75,14 +75,14 @@ quiet xs = append-nil xs
 
 -- ---- lists are accepted
 
-accepted_ok : {K : Opening} {regs : List Registration} {P : History} (lists : List ValueList) → Standing K false regs [] P → accept_answer P lists ≡ Ok (map (λ list. Kept) lists)
+pub accepted_ok : {K : Opening} {regs : List Registration} {cache : List CacheEntry} {P : History} (lists : List ValueList) → Standing K false regs [] cache P → accept_answer P lists ≡ Ok (map (λ list. Kept) lists)
 accepted_ok lists s = rw s.is_so refl
 
-pub accepts : {K : Opening} {regs : List Registration} {P : History} (lists : List ValueList) (words : List ℕ) (now : ℕ)
-    → Standing K false regs [] P → IsTrue (list_all (fits K.types) lists) → length words ≡ length lists
-    → Standing K false regs lists (P ▸ entry.Accept 0 lists words now (accept_answer P lists))
-accepts {K = K} {regs = regs} {P = P} lists words now s fit many =
-    subst (λ (reply : _). Standing K false regs lists (P ▸ entry.Accept 0 lists words now reply)) (sym (accepted_ok lists s)) (record {
+pub accepts : {K : Opening} {regs : List Registration} {cache : List CacheEntry} {P : History} (lists : List ValueList) (words : List ℕ) (now : ℕ)
+    → Standing K false regs [] cache P → IsTrue (list_all (fits K.types) lists) → length words ≡ length lists
+    → Standing K false regs lists cache (P ▸ entry.Accept 0 lists words now (accept_answer P lists))
+accepts {K = K} {regs = regs} {cache = cache} {P = P} lists words now s fit many =
+    subst (λ (reply : _). Standing K false regs lists cache (P ▸ entry.Accept 0 lists words now reply)) (sym (accepted_ok lists s)) (record {
       legal = (s.legal, (sym (accepted_ok lists s), fit, many));
       is_so = s.is_so;
       registers = s.registers;
@@ -94,14 +94,21 @@ accepts {K = K} {regs = regs} {P = P} lists words now s fit many =
       counted = s.counted;
       taken = λ r. s.taken r ∙ ap length (sym (quiet (calls_to r P)));
       answered = λ r. s.answered r ∙ ap length (sym (quiet (calls_to r P)));
+      caches = s.caches;
     })
 
 -- ---- a list is handled
 
-pub next_is : {K : Opening} {stopped : Bool} {regs : List Registration} {P : History} (v : ValueList) (queue : List ValueList) → Standing K stopped regs (v ∷ queue) P → next_list P ≡ Some v
+pub next_is : {K : Opening} {stopped : Bool} {regs : List Registration} {cache : List CacheEntry} {P : History} (v : ValueList) (queue : List ValueList) → Standing K stopped regs (v ∷ queue) cache P → next_list P ≡ Some v
 next_is v queue s = rw (s.queued, s.counted) (seam s.earlier v queue)
 
-pub one_queued : {K : Opening} {stopped : Bool} {regs : List Registration} {P : History} (v : ValueList) (queue : List ValueList) → Standing K stopped regs (v ∷ queue) P → handles P < length (kept P)
+-- the cache after the next list
+stored_next : {K : Opening} {stopped : Bool} {regs : List Registration} {cache : List CacheEntry} {P : History} (v : ValueList) (queue : List ValueList) (now : ℕ)
+    → Standing K stopped regs (v ∷ queue) cache P → stored K (next_list P) now (cache_after K P) ≡ stored K (Some v) now cache
+stored_next {K = K} {P = P} v queue now s =
+    ap (λ (next : Option ValueList). stored K next now (cache_after K P)) (next_is v queue s) ∙ ap (stored K (Some v) now) s.caches
+
+pub one_queued : {K : Opening} {stopped : Bool} {regs : List Registration} {cache : List CacheEntry} {P : History} (v : ValueList) (queue : List ValueList) → Standing K stopped regs (v ∷ queue) cache P → handles P < length (kept P)
 one_queued v queue s = rw (s.queued, s.counted) (omega (arith, length-append s.earlier (v ∷ queue)))
 
 one_more : (xs : List ValueList) (v : ValueList) → length xs + 1 ≡ length (xs ++ v ∷ [])
@@ -112,38 +119,39 @@ none_sent : (r : ℕ) (next : Option ValueList) → sent_to r (writes_of next []
 none_sent r None = refl
 none_sent r (Some list) = refl
 
-pub calls_to-unwritten : (P : History) (now : ℕ) → listening WRITE P ≡ [] → (r : ℕ) → calls_to r (P ▸ entry.Handle 0 now (handle_answer P now)) ≡ calls_to r P
-calls_to-unwritten P now nobody r = rw (nobody, none_sent r (next_list P), quiet (calls_to r P)) refl
+pub calls_to-unwritten : (K : Opening) (P : History) (now : ℕ) → listening WRITE P ≡ [] → (r : ℕ) → calls_to r (P ▸ entry.Handle 0 now (handle_answer K P)) ≡ calls_to r P
+calls_to-unwritten K P now nobody r = rw (nobody, none_sent r (next_list P), quiet (calls_to r P)) refl
 
-pub handles_unwritten : {K : Opening} {stopped : Bool} {regs : List Registration} {P : History} (v : ValueList) (queue : List ValueList) (now : ℕ)
-    → Standing K stopped regs (v ∷ queue) P → listening WRITE P ≡ []
-    → Standing K stopped regs queue (P ▸ entry.Handle 0 now (handle_answer P now))
-handles_unwritten {P = P} v queue now s nobody = record {
-      legal = (s.legal, (refl, one_queued v queue s));
-      is_so = s.is_so;
-      registers = s.registers;
-      unclosed = s.unclosed;
-      unretired = s.unretired;
-      home = s.home;
-      earlier = s.earlier ++ v ∷ [];
-      queued = s.queued ∙ sym (append_assoc s.earlier (v ∷ []) queue);
-      counted = ap (λ (n : ℕ). n + 1) s.counted ∙ one_more s.earlier v;
-      taken = λ r. s.taken r ∙ ap length (sym (calls_to-unwritten P now nobody r));
-      answered = λ r. s.answered r ∙ ap length (sym (calls_to-unwritten P now nobody r));
-    }
+pub handles_unwritten : {K : Opening} {stopped : Bool} {regs : List Registration} {cache : List CacheEntry} {P : History} (v : ValueList) (queue : List ValueList) (now : ℕ)
+    → Standing K stopped regs (v ∷ queue) cache P → listening WRITE P ≡ []
+    → Standing K stopped regs queue (stored K (Some v) now cache) (P ▸ entry.Handle 0 now (handle_answer K P))
+handles_unwritten {K = K} {P = P} v queue now s nobody = record {
+  legal = (s.legal, (refl, one_queued v queue s));
+  is_so = s.is_so;
+  registers = s.registers;
+  unclosed = s.unclosed;
+  unretired = s.unretired;
+  home = s.home;
+  earlier = s.earlier ++ v ∷ [];
+  queued = s.queued ∙ sym (append_assoc s.earlier (v ∷ []) queue);
+  counted = ap (λ (n : ℕ). n + 1) s.counted ∙ one_more s.earlier v;
+  taken = λ r. s.taken r ∙ ap length (sym (calls_to-unwritten K P now nobody r));
+  answered = λ r. s.answered r ∙ ap length (sym (calls_to-unwritten K P now nobody r));
+  caches = stored_next v queue now s;
+}
 
 -- all registrations are live
-pub live-is : {K : Opening} {stopped : Bool} {regs : List Registration} {queue : List ValueList} {P : History} → Standing K stopped regs queue P → live P ≡ regs
+pub live-is : {K : Opening} {stopped : Bool} {regs : List Registration} {queue : List ValueList} {cache : List CacheEntry} {P : History} → Standing K stopped regs queue cache P → live P ≡ regs
 live-is {regs = regs} {P = P} s = ap (filter (λ g. not (is_closed g.number P))) s.registers ∙ all_pass regs
   where
     all_pass : (gs : List Registration) → filter (λ g. not (is_closed g.number P)) gs ≡ gs
     all_pass [] = refl
     all_pass (g ∷ gs) = rw (s.unclosed g.number, all_pass gs) refl
 
-live_one : {K : Opening} {stopped : Bool} {g : Registration} {queue : List ValueList} {P : History} → Standing K stopped (g ∷ []) queue P → live P ≡ g ∷ []
+live_one : {K : Opening} {stopped : Bool} {g : Registration} {queue : List ValueList} {cache : List CacheEntry} {P : History} → Standing K stopped (g ∷ []) queue cache P → live P ≡ g ∷ []
 live_one s = live-is s
 
-pub listens : {K : Opening} {stopped : Bool} {g : Registration} {queue : List ValueList} {P : History} → Standing K stopped (g ∷ []) queue P → IsWriter g → listening WRITE P ≡ g.number ∷ []
+pub listens : {K : Opening} {stopped : Bool} {g : Registration} {queue : List ValueList} {cache : List CacheEntry} {P : History} → Standing K stopped (g ∷ []) queue cache P → IsWriter g → listening WRITE P ≡ g.number ∷ []
 listens s w = rw (live_one s, w.writes) refl
 
 -- the calls to r after a write to a registration
@@ -161,9 +169,9 @@ ready_first : (Q : History) (g : Registration) → registrations Q ≡ g ∷ [] 
 ready_first Q g is able =
     ap (λ (gs : List Registration). elim (find (is_ready Q) gs) as (λ o. Option ℕ) [ None ↦ None | Some x ↦ Some x.number ]) is ∙ rw able refl
 
-module _ (K : Opening) (stopped : Bool) (g : Registration) (P : History) (v : ValueList) (queue : List ValueList) (now : ℕ) (answer : Answer) where
+module _ (K : Opening) (stopped : Bool) (g : Registration) (P : History) (v : ValueList) (queue : List ValueList) (cache : List CacheEntry) (now : ℕ) (answer : Answer) where
   abbrev pub after_handle : History
-  after_handle = P ▸ entry.Handle 0 now (handle_answer P now)
+  after_handle = P ▸ entry.Handle 0 now (handle_answer K P)
 
   abbrev pub after_take : History
   after_take = after_handle ▸ entry.Take 0 g.number (calls.Write v)
@@ -171,22 +179,22 @@ module _ (K : Opening) (stopped : Bool) (g : Registration) (P : History) (v : Va
   abbrev pub after_done : History
   after_done = after_take ▸ entry.Done 0 g.number answer
 
-  pub calls_to-after_handle : Standing K stopped (g ∷ []) (v ∷ queue) P → IsWriter g → (r : ℕ) → calls_to r after_handle ≡ with_write g.number r (calls.Write v) (calls_to r P)
+  pub calls_to-after_handle : Standing K stopped (g ∷ []) (v ∷ queue) cache P → IsWriter g → (r : ℕ) → calls_to r after_handle ≡ with_write g.number r (calls.Write v) (calls_to r P)
   calls_to-after_handle s w r = rw (next_is v queue s, listens s w, sent_one g.number r (calls.Write v)) refl
 
-  pub calls_to-after_done : Standing K stopped (g ∷ []) (v ∷ queue) P → IsWriter g → (r : ℕ) → calls_to r after_done ≡ with_write g.number r (calls.Write v) (calls_to r P)
+  pub calls_to-after_done : Standing K stopped (g ∷ []) (v ∷ queue) cache P → IsWriter g → (r : ℕ) → calls_to r after_done ≡ with_write g.number r (calls.Write v) (calls_to r P)
   calls_to-after_done s w r = quiet _ ∙ quiet _ ∙ calls_to-after_handle s w r
 
-  own_calls : Standing K stopped (g ∷ []) (v ∷ queue) P → IsWriter g → calls_to g.number after_handle ≡ calls_to g.number P ++ calls.Write v ∷ []
+  own_calls : Standing K stopped (g ∷ []) (v ∷ queue) cache P → IsWriter g → calls_to g.number after_handle ≡ calls_to g.number P ++ calls.Write v ∷ []
   own_calls s w = calls_to-after_handle s w g.number ∙ rw (same_number g.number) refl
 
-  one_pending : Standing K stopped (g ∷ []) (v ∷ queue) P → IsWriter g → pending after_handle g.number ≡ 1
+  one_pending : Standing K stopped (g ∷ []) (v ∷ queue) cache P → IsWriter g → pending after_handle g.number ≡ 1
   one_pending s w = rw (own_calls s w, s.taken g.number) (omega (arith, length-append (calls_to g.number P) (calls.Write v ∷ [])))
 
-  pub ready_then : Standing K stopped (g ∷ []) (v ∷ queue) P → IsWriter g → ready after_handle ≡ Some g.number
+  pub ready_then : Standing K stopped (g ∷ []) (v ∷ queue) cache P → IsWriter g → ready after_handle ≡ Some g.number
   ready_then s w = ready_first after_handle g s.registers (rw (w.plugged, s.unretired g.number, s.home g.number, one_pending s w) refl)
 
-  pub next_then : Standing K stopped (g ∷ []) (v ∷ queue) P → IsWriter g → next_call after_handle g.number ≡ Some (calls.Write v)
+  pub next_then : Standing K stopped (g ∷ []) (v ∷ queue) cache P → IsWriter g → next_call after_handle g.number ≡ Some (calls.Write v)
   next_then s w = rw (own_calls s w, s.taken g.number) (seam (calls_to g.number P) (calls.Write v) [])
 
   -- ---- the write is taken and answered
@@ -205,21 +213,41 @@ module _ (K : Opening) (stopped : Bool) (g : Registration) (P : History) (v : Va
   at_home true o e = refl
   at_home false o e = e
 
-  pub handles_written : Standing K stopped (g ∷ []) (v ∷ queue) P → IsWriter g → Standing K stopped (g ∷ []) queue after_done
+  pub handles_written : Standing K stopped (g ∷ []) (v ∷ queue) cache P → IsWriter g → Standing K stopped (g ∷ []) queue (stored K (Some v) now cache) after_done
   handles_written s w = record {
-        legal = (((s.legal, (refl, one_queued v queue s)), (ready_then s w, next_then s w)), rw (same_number g.number) refl);
-        is_so = s.is_so;
-        registers = s.registers;
-        unclosed = s.unclosed;
-        unretired = s.unretired;
-        home = λ r. at_home (nat_eq g.number r) (taken_by r P) (s.home r);
-        earlier = s.earlier ++ v ∷ [];
-        queued = s.queued ∙ sym (append_assoc s.earlier (v ∷ []) queue);
-        counted = ap (λ (n : ℕ). n + 1) s.counted ∙ one_more s.earlier v;
-        taken = λ r. one_more_taken (nat_eq g.number r) (takes r P) (calls_to r P) (s.taken r) ∙ ap length (sym (calls_to-after_done s w r));
-        answered = λ r. one_more_answered (nat_eq g.number r) (answers_to r P) (calls_to r P) (s.answered r) ∙ ap length (sym (calls_to-after_done s w r));
-      }
+    legal = (((s.legal, (refl, one_queued v queue s)), (ready_then s w, next_then s w)), rw (same_number g.number) refl);
+    is_so = s.is_so;
+    registers = s.registers;
+    unclosed = s.unclosed;
+    unretired = s.unretired;
+    home = λ r. at_home (nat_eq g.number r) (taken_by r P) (s.home r);
+    earlier = s.earlier ++ v ∷ [];
+    queued = s.queued ∙ sym (append_assoc s.earlier (v ∷ []) queue);
+    counted = ap (λ (n : ℕ). n + 1) s.counted ∙ one_more s.earlier v;
+    taken = λ r. one_more_taken (nat_eq g.number r) (takes r P) (calls_to r P) (s.taken r) ∙ ap length (sym (calls_to-after_done s w r));
+    answered = λ r. one_more_answered (nat_eq g.number r) (answers_to r P) (calls_to r P) (s.answered r) ∙ ap length (sym (calls_to-after_done s w r));
+    caches = stored_next v queue now s;
+  }
 
-  pub works_written : {O : History} {given : List Given} → Standing K stopped (g ∷ []) (v ∷ queue) P → IsWriter g → Works O given P
-      → Works O ((given ++ Now now ∷ []) ++ Answered answer ∷ []) after_done
+  pub works_written : {O : History} {given : List Given} → Standing K stopped (g ∷ []) (v ∷ queue) cache P → IsWriter g → Works K O given P
+      → Works K O ((given ++ Now now ∷ []) ++ Answered answer ∷ []) after_done
   works_written s w so_far = called (handled so_far (none_ready s) (one_queued v queue s)) (ready_then s w) (next_then s w)
+
+-- ---- a query
+
+pub asks : {K : Opening} {stopped : Bool} {regs : List Registration} {queue : List ValueList} {cache : List CacheEntry} {P : History} (name : Option (List ℕ))
+    → Standing K stopped regs queue cache P → Standing K stopped regs queue cache (P ▸ entry.Query 0 name (query_answer K P name))
+asks {P = P} name s = record {
+  legal = (s.legal, refl);
+  is_so = s.is_so;
+  registers = s.registers;
+  unclosed = s.unclosed;
+  unretired = s.unretired;
+  home = s.home;
+  earlier = s.earlier;
+  queued = s.queued;
+  counted = s.counted;
+  taken = λ r. s.taken r ∙ ap length (sym (quiet (calls_to r P)));
+  answered = λ r. s.answered r ∙ ap length (sym (quiet (calls_to r P)));
+  caches = s.caches;
+}

@@ -1,5 +1,5 @@
 -- A daemon whose objects are all at home, and for which no call waits.
-use Rattle.std.specs.Prelude.{◌≡◌, ◌⊎◌, ℕ, Bool, true, false, List, [], ◌∷◌, ◌++◌, length, Option, None}
+use Rattle.std.specs.Prelude.{◌≡◌, ◌⊎◌, ℕ, Bool, true, false, List, [], ◌∷◌, ◌++◌, length, None}
 use Rattle.std.specs.List.{filter}
 use Rattle.cd_value.specs.declared.data.ValueList.{ValueList}
 use Rattle.cd_registry.specs.declared.calls.Answer.{Answer}
@@ -9,13 +9,15 @@ use Rattle.cd_history.specs.History.{History, handles, is_stopped, kept}
 use Rattle.cd_history.specs.Registrations.{Registration, registrations, is_closed, is_retired, is_plug, has_kind, WRITE}
 use Rattle.cd_history.specs.Leases.{takes, answers_to, taken_by}
 use Rattle.cd_daemon.specs.declared.Opening.{Opening}
+use Rattle.cd_cache.specs.declared.entry.CacheEntry.{CacheEntry}
+use Rattle.cd_daemon.specs.Cached.{cache_after}
 use Rattle.cd_daemon.specs.Calls.{calls_to}
 use Rattle.cd_daemon.specs.Legal.{IsLegal}
 use Rattle.cd_history.specs.declared.entry.Joining.TheVariants as joining
 use Rattle.cd_transcript.specs.LineRuns.{OnShelf, returned}
 
--- stopped or not, with these registrations, none of them closed, and these lists in the queue
-pub record Standing (K : Opening) (stopped : Bool) (regs : List Registration) (queue : List ValueList) (P : History) : Type 0 where
+-- stopped or not, with these registrations, none of them closed, these lists in the queue and this cache
+pub record Standing (K : Opening) (stopped : Bool) (regs : List Registration) (queue : List ValueList) (cache : List CacheEntry) (P : History) : Type 0 where
   pub legal : IsLegal K P
   pub is_so : is_stopped P ≡ stopped
   pub registers : registrations P ≡ regs
@@ -27,6 +29,7 @@ pub record Standing (K : Opening) (stopped : Bool) (regs : List Registration) (q
   pub counted : handles P ≡ length earlier
   pub taken : (r : ℕ) → takes r P ≡ length (calls_to r P)
   pub answered : (r : ℕ) → length (answers_to r P) ≡ length (calls_to r P)
+  pub caches : cache_after K P ≡ cache
 
 -- a registration of a plug-in that is called with lists
 pub record IsWriter (g : Registration) : Type 0 where
@@ -50,9 +53,9 @@ Writes true (g ∷ gs) = IsWriter g
 Writes false gs = filter (has_kind WRITE) gs ≡ []
 
 -- the daemon of a run after a history, with a shelf that told `opened` at first and tells `shelf` now
-pub record RunsOn (K : Opening) (opened shelf : List OnShelf) (writer : Bool) (queue : List ValueList) (P : History) : Type 0 where
+pub record RunsOn (K : Opening) (opened shelf : List OnShelf) (writer : Bool) (queue : List ValueList) (cache : List CacheEntry) (P : History) : Type 0 where
   pub regs : List Registration
-  pub standing : Standing K false regs queue P
+  pub standing : Standing K false regs queue cache P
   pub of_shelf : AreOf opened regs
   pub writes : Writes writer regs
   pub back : shelf ≡ returned P opened

@@ -18,7 +18,7 @@ use Rattle.cd_sock.specs.declared.reply.Reply.TheVariants as reply
 use Rattle.cd_sock.specs.Replies.{reply_text}
 use Rattle.cd_history.specs.declared.entry.Found.{Found}
 use Rattle.cd_daemon.specs.declared.Opening.{Opening}
-use Rattle.cd_transcript.specs.Transcripts.{Said, is_of_a_line, of_lines, reply_to, transcript}
+use Rattle.cd_transcript.specs.Transcripts.{Said, is_of_a_line, of_lines, reply_to, transcript, Written}
 use Rattle.cd_transcript.specs.LineRuns.{OnShelf, registered, Works, nothing, called, handled, closed}
 
 -- work uses no line
@@ -72,15 +72,11 @@ module _ {Line : Type 0} (says : Line → ℕ → Said) where
     one = λ later E. rw is refl;
   }
 
-  -- what was written for lines that were served, and whatever comes after them
-  pub record Written (lines : List Line) (Q : History) (text : List ℕ) : Type 0 where
-    pub all : (later : List Line) (E : List Entry) → transcript says (lines ++ later) (of_lines Q ++ E) ≡ text ++ transcript says later E
-
-  pub nothing_written : (P : History) → of_lines P ≡ [] → Written [] P []
+  pub nothing_written : (P : History) → of_lines P ≡ [] → Written says [] P []
   nothing_written P clean = record { all = λ later E. rw clean refl }
 
   pub written_more : (lines : List Line) (l : Line) (Q R : History) (text more : List ℕ)
-      → Written lines Q text → Writes l Q R more → Written (lines ++ l ∷ []) R (text ++ more)
+      → Written says lines Q text → Writes l Q R more → Written says (lines ++ l ∷ []) R (text ++ more)
   written_more lines l Q R text more so_far w = record {
     all = λ later E.
         ap (λ (ls : List Line). transcript says ls (of_lines R ++ E)) (append_assoc lines (l ∷ []) later)
@@ -92,7 +88,7 @@ module _ {Line : Type 0} (says : Line → ℕ → Said) where
   }
 
   -- what was written is the transcript
-  pub transcript-is : (lines : List Line) (Q : History) (text : List ℕ) → Written lines Q text → transcript says lines (of_lines Q) ≡ text
+  pub transcript-is : (lines : List Line) (Q : History) (text : List ℕ) → Written says lines Q text → transcript says lines (of_lines Q) ≡ text
   transcript-is lines Q text w =
       ap (λ (ls : List Line). transcript says ls (of_lines Q)) (sym (append-nil lines))
       ∙ ap (λ (es : List Entry). transcript says (lines ++ []) es) (sym (append-nil (of_lines Q)))

@@ -1,5 +1,5 @@
 -- What is written for lines and the entries that they use.
-use Rattle.std.specs.Prelude.{ℕ, Bool, true, false, codes, List, [], ◌∷◌, ◌++◌, reverse, Result, Ok, Err}
+use Rattle.std.specs.Prelude.{◌≡◌, ℕ, Bool, true, false, codes, List, [], ◌∷◌, ◌++◌, reverse, Result, Ok, Err}
 use Rattle.std.specs.List.{filter}
 use Rattle.cd_sock.specs.declared.command.Command.{Command}
 use Rattle.cd_sock.specs.declared.command.Command.TheVariants as command
@@ -66,3 +66,7 @@ module _ {Line : Type 0} (says : Line → ℕ → Said) where
   abbrev pub transcript : List Line → List Entry → List ℕ
   transcript [] E = []
   transcript (l ∷ lines) E = written_for (says l 0) E ++ transcript lines (left_by (says l 0) E)
+
+  -- this text is what is written for lines after which the history was Q, whatever comes after them
+  pub record Written (lines : List Line) (Q : History) (text : List ℕ) : Type 0 where
+    pub all : (later : List Line) (E : List Entry) → transcript (lines ++ later) (of_lines Q ++ E) ≡ text ++ transcript later E

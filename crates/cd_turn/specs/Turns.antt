@@ -1,13 +1,27 @@
--- What a pass knows, and which turn it is of.
-use Rattle.std.specs.Prelude.{ℕ}
+-- What a pass knows and shows, and which turn it is of.
+use Rattle.std.specs.Prelude.{ℕ, Option}
 use Rattle.cd_turn.specs.declared.pass.Pass.{Pass}
 use Rattle.cd_turn.specs.declared.turn.Turn.{Turn}
 use Rattle.cd_turn.specs.declared.view.View.{View}
 use Rattle.cd_turn.specs.Passes.{IsPass, IsHeld}
 
 module _ {S E K : Type 0} where
+  -- what a pass knows
   abbrev pub view : Pass S E K → View K E
   view p = p.seat.me.0
+
+  -- what it shows at run time. Between two calls these are the numbers of its view
+  abbrev pub actor_of : Pass S E K → ℕ
+  actor_of p = p.face.actor
+
+  abbrev pub parent_of : Pass S E K → ℕ
+  parent_of p = p.face.parent
+
+  abbrev pub out_of : Pass S E K → ℕ
+  out_of p = p.face.out
+
+  abbrev pub over_of : Pass S E K → Option ℕ
+  over_of p = p.face.over
 
   -- a pass of this turn, between two calls
   abbrev pub IsPassOf : (E → ℕ) → Turn S E K → Pass S E K → Type 0

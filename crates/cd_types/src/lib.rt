@@ -157,3 +157,6 @@ pub fn fits_set(set: &DataSet, list: &ValueList) -> bool
 {
     is_of_type(set, list) && is_complete(set, list) && values_fit(set, list)
 }
+
+#[cfg(test)]
+mod tests;

@@ -1,0 +1,157 @@
+-- From what was served to what a run promises.
+use Rattle.std.proofs.Common.{◌≡◌, ◌≤◌, ◌⊎◌, inl, inr, ◌&&◌, not, ℕ, Bool, true, false, Option, Some, List, [], ◌∷◌, ◌++◌, length, refl, sym, ap, ◌∙◌, subst, arith, length-append}
+use Rattle.cd_io.specs.Told.{Loses}
+use Rattle.cd_types.specs.Types.{builtin}
+use Rattle.cd_io.specs.Causes.{Rose}
+use Rattle.cd_value.specs.declared.data.DataSet.{DataSet}
+use Rattle.cd_sock.specs.Lines.{Cut}
+use Rattle.cd_history.specs.History.{History}
+use Rattle.cd_history.specs.Registrations.{has_kind, WRITE}
+use Rattle.cd_daemon.specs.declared.Opening.{Opening}
+use Rattle.cd_daemon.specs.Answers.{is_reserved}
+use Rattle.cd_transcript.specs.Transcripts.{of_lines, transcript}
+use Rattle.cd_transcript.specs.LineRuns.{OnShelf, registered, none}
+use Rattle.cd_transcript.proofs.Written.{nothing_written, registered-of_lines, transcript-is}
+use Rattle.cd_serve.specs.declared.end.End.{End}
+use Rattle.cd_serve.specs.declared.end.End.TheVariants as ends
+use Rattle.cd_serve.specs.Standing.{RunsOn, Writes, registration_of}
+use Rattle.std.proofs.lemmas.List.{length-map}
+use Rattle.cd_registry.specs.declared.plug.PlugTells.{PlugTells}
+use Rattle.cd_serve.specs.declared.shelf.ShelvedOf.{ShelvedOf}
+use Rattle.cd_serve.specs.Shelf.{on_shelf, shown}
+use Rattle.cd_serve.specs.Tells.{Pairs}
+use Rattle.cd_serve.specs.Progress.{Seen, HasServed, says}
+use Rattle.cd_serve.specs.Sessions.{LIMIT, LinkTells, Spoke, Ended}
+use Rattle.cd_serve.specs.Runs.{IsRun, IsWithin, Promises, opening, line_says, writes_first, written_of, opened}
+use Rattle.cd_serve.proofs.Gifts.{gave_nothing}
+use Rattle.cd_serve.proofs.Ends.{run_begins, run_begins_empty, run_begins_refused, run_ends, at_end, at_end-of_lines}
+
+-- ---- the beginning
+
+writes_alike : (t : Bool) (plug : OnShelf) → has_kind WRITE (registration_of plug) ≡ t → Writes t (registration_of plug ∷ [])
+writes_alike true plug is = record { writes = is; plugged = refl }
+writes_alike false plug is = rw is refl
+
+pub begins_run : (K : Opening) (shelf : List OnShelf) → length shelf ≤ 1 → RunsOn K shelf shelf (writes_first shelf) [] [] (registered shelf [])
+begins_run K [] few = run_begins_empty K
+begins_run K (plug ∷ []) few = by (is_reserved plug.name) refl
+  where
+    by : (t : Bool) → is_reserved plug.name ≡ t → RunsOn K (plug ∷ []) (plug ∷ []) (not (is_reserved plug.name) && has_kind WRITE (registration_of plug)) [] [] (registered (plug ∷ []) [])
+    by true is =
+        let R : Bool → Type 0 = λ writer. RunsOn K (plug ∷ []) (plug ∷ []) writer [] [] (registered (plug ∷ []) []) in
+        subst R (ap (λ (t : Bool). not t && has_kind WRITE (registration_of plug)) (sym is)) (run_begins_refused K plug is)
+    by false is =
+        let R : Bool → Type 0 = λ writer. RunsOn K (plug ∷ []) (plug ∷ []) writer [] [] (registered (plug ∷ []) []) in
+        subst R (ap (λ (t : Bool). not t && has_kind WRITE (registration_of plug)) (sym is)) (run_begins K plug (has_kind WRITE (registration_of plug)) is (writes_alike _ plug refl))
+begins_run K (plug ∷ (next ∷ plugs)) few = absurd (omega (arith, few))
+
+pub has_begun : (types : List DataSet) (shelf : List OnShelf) (pairs : Pairs) → length shelf ≤ 1
+    → let begun : Seen = record { types = types; shelf = shelf; writer = writes_first shelf; cache = []; given = []; pairs = pairs } in HasServed begun [] [] begun
+has_begun types shelf pairs few = record {
+  past = registered shelf [];
+  types = refl;
+  runs = begins_run (record { types = types }) shelf few;
+  serves = none;
+  written = nothing_written (says types) (registered shelf []) (registered-of_lines shelf []);
+  gave = gave_nothing pairs;
+}
+
+-- ---- the end
+
+module _ (begun : Seen) (built : begun.types ≡ builtin) (lines : List Cut) (text : List ℕ) (seen : Seen) (h : HasServed begun lines text seen) where
+  abbrev pub whole_history : History
+  whole_history = at_end h.past
+
+  pub is_run : IsRun opening line_says begun.shelf seen.shelf lines seen.given whole_history
+  unfolding opening
+  is_run = let R : List DataSet → Type 0 = λ types. IsRun (record { types = types }) (says types) begun.shelf seen.shelf lines seen.given whole_history in
+      subst R built (run_ends (says begun.types) h.past h.runs h.serves)
+
+  pub is_written : text ≡ written_of lines whole_history
+  is_written =
+      sym (transcript-is (says begun.types) lines h.past text h.written)
+      ∙ ap (λ (types : List DataSet). transcript (says types) lines (of_lines h.past)) built
+      ∙ ap (transcript line_says lines) (sym (at_end-of_lines h.past))
+
+module _ (begun seen : Seen) (before after : LinkTells) (built : begun.types ≡ builtin) where
+  pub promised : (end : End) → Ended end begun before after seen → Promises begun.shelf seen.shelf seen.given begun.pairs before after end
+  promised ends.Done e = record {
+    heard = e.heard;
+    history = whole_history begun built _ _ seen e.served;
+    short = e.short;
+    run = is_run begun built _ _ seen e.served;
+    spoke = let S : List ℕ → Type 0 = λ text. Spoke e.heard text before after in subst S (is_written begun built _ _ seen e.served) e.spoke;
+    ended = e.ended;
+    gave = (seen.pairs, e.served.gave);
+  }
+  promised ends.InputTooLong e = record {
+    heard = e.heard;
+    history = whole_history begun built _ _ seen e.served;
+    long = e.long;
+    run = is_run begun built _ _ seen e.served;
+    spoke = let S : List ℕ → Type 0 = λ text. Spoke e.heard text before after in subst S (is_written begun built _ _ seen e.served) e.spoke;
+    gave = (seen.pairs, e.served.gave);
+  }
+  promised ends.LinkFault e = record {
+    heard = e.heard;
+    lines = e.lines;
+    unserved = e.unserved;
+    are = e.are;
+    history = whole_history begun built _ _ seen e.served;
+    run = is_run begun built _ _ seen e.served;
+    said = e.text;
+    unsaid = e.unwritten;
+    parts = is_written begun built _ _ seen e.served;
+    spoke = e.spoke;
+    rose = e.rose;
+    gave = (seen.pairs, e.served.gave);
+  }
+  promised ends.Usage e = absurd e
+  promised ends.Memory e = tt
+
+-- ---- completeness
+
+heard_within : (heard : List ℕ) (before after : LinkTells) → IsWithin before after → Loses heard before.left after.left → length heard ≤ LIMIT
+heard_within heard before after w loses =
+    let L : Option (List ℕ) → Option (List ℕ) → Type 0 = Loses heard in
+    let S : Option (List ℕ) → Type 0 = λ o. L (Some w.bytes) o in
+    let F : Option (List ℕ) → Type 0 = λ o. L o after.left in
+    let same : w.bytes ≡ heard ++ w.rest = subst S w.has (subst F w.had loses) in
+    omega (arith, w.few, ap length same, length-append heard w.rest)
+
+pub completed : (begun : Seen) (before after : LinkTells) (seen : Seen) (end : End) → Ended end begun before after seen → (Rose before.faults after.faults → ⊥) → IsWithin before after → (end ≡ ends.Done) ⊎ (end ≡ ends.Memory)
+completed begun before after seen ends.Done e fine within = inl refl
+completed begun before after seen ends.Memory e fine within = inr refl
+completed begun before after seen ends.Usage e fine within = absurd e
+completed begun before after seen ends.LinkFault e fine within = absurd (fine e.rose)
+completed begun before after seen ends.InputTooLong e fine within =
+    let short : length e.heard ≤ LIMIT = heard_within e.heard before after within e.spoke.left in
+    let long = e.long in
+    absurd (omega (arith, short, long))
+
+-- ---- the whole run
+
+module _ (shelf : List OnShelf) (pairs : Pairs) (before after : LinkTells) (seen : Seen) (end : End) (few : length shelf ≤ 1) (first : Seen) (is : first ≡ opened shelf pairs)
+    (ends_so : (begun : Seen) → HasServed begun [] [] first → Ended end begun before after seen) where
+  ended_so : Ended end (opened shelf pairs) before after seen
+  ended_so = ends_so (opened shelf pairs) (let H : Seen → Type 0 = λ s. HasServed (opened shelf pairs) [] [] s in subst H (sym is) (has_begun builtin shelf pairs few))
+
+  pub run_promised : Promises shelf seen.shelf seen.given pairs before after end
+  run_promised = promised (opened shelf pairs) seen before after refl end ended_so
+
+  pub run_completed : (Rose before.faults after.faults → ⊥) → IsWithin before after → (end ≡ ends.Done) ⊎ (end ≡ ends.Memory)
+  run_completed = completed (opened shelf pairs) before after seen end ended_so
+
+  pub run_never_usage : end ≡ ends.Usage → ⊥
+  run_never_usage e = let E : End → Type 0 = λ x. Ended x (opened shelf pairs) before after seen in subst E e ended_so
+
+-- a clock and dice begin as the world tells
+pub pairs_same : (clock clock' dice dice' dice'' : Option (ℕ × ℕ)) → clock ≡ clock' → dice ≡ dice' → dice' ≡ dice''
+    → let p : Pairs = record { clock = clock; dice = dice } in let q : Pairs = record { clock = clock'; dice = dice'' } in p ≡ q
+pairs_same clock clock' dice dice' dice'' c d e = rw (c, d, e) refl
+
+pub first_is : (first : Seen) (shelf : List OnShelf) (pairs begun : Pairs) → first ≡ opened shelf pairs → pairs ≡ begun → first ≡ opened shelf begun
+first_is first shelf pairs begun is same = is ∙ ap (opened shelf) same
+
+pub few_shown : {P : Type 0} (tells : P → PlugTells) (shelf : List (ShelvedOf P)) → length shelf ≤ 1 → length (on_shelf tells shelf) ≤ 1
+few_shown tells shelf few = omega (arith, few, length-map shelf (shown tells))

@@ -1,0 +1,212 @@
+-- Lines are served, one after the other.
+use Rattle.std.proofs.Common.{◌≡◌, ℕ, true, false, List, [], ◌∷◌, ◌++◌, map, Option, None, Some, IfSome, IfOk, IsTrue, Result, Ok, Err, refl, sym, ap, ◌∙◌, subst, append_assoc}
+use Rattle.std.proofs.lemmas.List.{append-nil}
+use Rattle.std.specs.List.{list_all}
+use Rattle.cd_value.specs.declared.data.Offered.{Offered}
+use Rattle.cd_value.specs.declared.data.ValueList.{ValueList}
+use Rattle.cd_value.specs.declared.data.DataSet.{DataSet}
+use Rattle.cd_value.specs.Identifier.{Fields, name_of}
+use Rattle.cd_types.specs.Types.{fits}
+use Rattle.cd_cache.specs.declared.entry.CacheEntry.{CacheEntry}
+use Rattle.cd_cache.specs.Cache.{cached}
+use Rattle.cd_cache.specs.Rows.{rows_of}
+use Rattle.cd_sock.specs.declared.command.Command.{Command}
+use Rattle.cd_sock.specs.declared.command.Command.TheVariants as command
+use Rattle.cd_sock.specs.declared.fault.LineFault.{LineFault}
+use Rattle.cd_sock.specs.declared.fault.LineFault.TheVariants as faults
+use Rattle.cd_sock.specs.declared.reply.Reply.{Reply}
+use Rattle.cd_sock.specs.declared.reply.Reply.TheVariants as reply
+use Rattle.cd_reading.specs.Gives.{Refuses}
+use Rattle.cd_sock.specs.Faults.{fault as fault_of}
+use Rattle.cd_sock.specs.Lines.{Cut}
+use Rattle.cd_sock.specs.Replies.{reply_text}
+use Rattle.cd_sock.specs.Meaning.{meaning, is_blank_line, ListsFit}
+use Rattle.cd_sock.proofs.Laws.{same_fault, same_get_val, same_list_val, same_put_val, blank_line, blank_only}
+use Rattle.cd_history.specs.declared.entry.Entry.TheVariants as entry
+use Rattle.cd_history.specs.declared.entry.Found.{Found}
+use Rattle.cd_history.specs.declared.entry.Stopping.{Stopping}
+use Rattle.cd_history.specs.declared.given.Given.{Given}
+use Rattle.cd_history.specs.declared.given.Given.TheVariants.{Now, Word}
+use Rattle.cd_history.specs.History.{History, ◌▸◌}
+use Rattle.cd_daemon.specs.Answers.{accept_answer, query_answer, found_in}
+use Rattle.cd_transcript.specs.Transcripts.{Said, Written, reply_of, reply_to}
+use Rattle.cd_transcript.specs.LineRuns.{registered, Serves as ServesLines, nothing, blank, refused, accepted, asked, listed, one_more}
+use Rattle.cd_transcript.proofs.Written.{written_more, blank_writes, refused_writes, accepted_writes, asked_writes, listed_writes}
+use Rattle.cd_serve.specs.Progress.{INTERVAL, says, Seen, opening_of, HasServed, IsWorking, with_moment, Puts, Obeys, Serves}
+use Rattle.cd_serve.proofs.Gifts.{gave_moment, gave_words}
+use Rattle.cd_serve.proofs.Steps.{accepted_ok, works_on}
+use Rattle.cd_serve.proofs.Shelves.{run_accepts, run_asks}
+
+module _ (begun : Seen) (lines : List Cut) (text : List ℕ) (old : Seen) (h : HasServed begun lines text old) (line : Cut) where
+  -- a blank line changes nothing
+  pub served_blank : says begun.types line 0 ≡ Ok command.Blank → HasServed begun (lines ++ line ∷ []) (text ++ []) old
+  served_blank is = record {
+    past = h.past;
+    types = h.types;
+    runs = h.runs;
+    serves = subst (λ (given : List Given). ServesLines (opening_of begun) (says begun.types) (lines ++ line ∷ []) (registered begun.shelf []) given h.past) (append-nil old.given) (one_more h.serves (blank is));
+    written = written_more _ lines line h.past h.past text [] h.written (blank_writes _ line h.past is);
+    gave = h.gave;
+  }
+
+  module _ (now : ℕ) (at : IfSome old.pairs.clock (λ pair. now ≡ pair.0)) where
+    -- a refused line only asks a moment
+    pub served_refused : (fault : LineFault) → says begun.types line 0 ≡ Err fault
+        → HasServed begun (lines ++ line ∷ []) (text ++ reply_text (reply.Fault fault)) (with_moment now old)
+    served_refused fault is = record {
+      past = h.past;
+      types = h.types;
+      runs = h.runs;
+      serves = one_more h.serves (refused is);
+      written = written_more _ lines line h.past h.past text (reply_text (reply.Fault fault)) h.written (refused_writes _ line h.past fault is);
+      gave = gave_moment begun.pairs old.pairs old.given now h.gave at;
+    }
+
+    same_cache : (name : List ℕ) → query_answer (opening_of begun) h.past (Some name) ≡ found_in (opening_of old) (cached name old.cache)
+    same_cache name = rw (h.runs.standing.caches, h.types) refl
+
+    -- a name is asked for
+    pub served_asked : (id : Fields) → says begun.types line 0 ≡ Ok (command.GetVal id)
+        → HasServed begun (lines ++ line ∷ []) (text ++ reply_text (reply_of (found_in (opening_of old) (cached (name_of id) old.cache)))) (with_moment now old)
+    served_asked id is = record {
+      past = h.past ▸ entry.Query 0 (Some (name_of id)) (query_answer (opening_of begun) h.past (Some (name_of id)));
+      types = h.types;
+      runs = run_asks (Some (name_of id)) h.runs;
+      serves = one_more h.serves (asked is);
+      written = let W : Found → Type 0 = λ found. Written (says begun.types) (lines ++ line ∷ []) (h.past ▸ entry.Query 0 (Some (name_of id)) (query_answer (opening_of begun) h.past (Some (name_of id)))) (text ++ reply_text (reply_of found)) in
+          subst W (same_cache (name_of id)) (written_more _ lines line h.past _ text _ h.written (asked_writes _ line h.past id (Some (name_of id)) _ is));
+      gave = gave_moment begun.pairs old.pairs old.given now h.gave at;
+    }
+
+    -- all rows are asked for
+    pub served_listed : says begun.types line 0 ≡ Ok command.ListVal
+        → HasServed begun (lines ++ line ∷ []) (text ++ reply_text (reply.Listed (rows_of old.cache))) (with_moment now old)
+    served_listed is = record {
+      past = h.past ▸ entry.Query 0 None (query_answer (opening_of begun) h.past None);
+      types = h.types;
+      runs = run_asks None h.runs;
+      serves = one_more h.serves (listed is);
+      written = let W : List CacheEntry → Type 0 = λ cache. Written (says begun.types) (lines ++ line ∷ []) (h.past ▸ entry.Query 0 None (query_answer (opening_of begun) h.past None)) (text ++ reply_text (reply.Listed (rows_of cache))) in
+          subst W h.runs.standing.caches (written_more _ lines line h.past _ text _ h.written (listed_writes _ line h.past None _ is));
+      gave = gave_moment begun.pairs old.pairs old.given now h.gave at;
+    }
+
+    -- lists are accepted and handled
+    module _ (lists at_zero : List ValueList) (new : Seen) (puts : Puts lists (with_moment now old) new) (fit : IsTrue (list_all (fits old.types) lists)) where
+      abbrev words : List ℕ
+      words = puts.rolled.words
+
+      abbrev start : History
+      start = h.past ▸ entry.Accept 0 lists words now (accept_answer h.past lists)
+
+      begins : IsWorking begun start puts.mid.given lists puts.mid
+      begins = let W : Seen → Type 0 = IsWorking begun start puts.mid.given lists in subst W (sym puts.rolled.seen) (record {
+        past = start;
+        types = h.types;
+        runs = run_accepts lists words now h.runs (let F : List DataSet → Type 0 = λ types. IsTrue (list_all (fits types) lists) in subst F h.types fit) puts.rolled.many;
+        given = [];
+        follows = sym (append-nil _) ∙ ap (λ (given : List Given). given ++ []) (sym (ap (λ (s : Seen). s.given) puts.rolled.seen));
+        works = nothing;
+        gave = gave_words begun.pairs _ puts.mid.pairs.dice _ words (gave_moment begun.pairs old.pairs old.given now h.gave at) puts.rolled.gave;
+      })
+
+      ends : IsWorking begun start puts.mid.given [] new
+      ends = puts.works begun start puts.mid.given begins
+
+      given_is : new.given ≡ old.given ++ (Now now ∷ map Word words ++ ends.given)
+      given_is = ends.follows ∙ ap (λ (s : Seen). s.given ++ ends.given) puts.rolled.seen
+          ∙ append_assoc (old.given ++ Now now ∷ []) (map Word words) ends.given
+          ∙ append_assoc old.given (Now now ∷ []) (map Word words ++ ends.given)
+
+      pub served_put : says begun.types line 0 ≡ Ok (command.PutVal at_zero) → says begun.types line now ≡ Ok (command.PutVal lists)
+          → HasServed begun (lines ++ line ∷ []) (text ++ reply_text reply.Success) new
+      served_put zero is = record {
+        past = ends.past;
+        types = ends.types;
+        runs = ends.runs;
+        serves = subst (λ (given : List Given). ServesLines (opening_of begun) (says begun.types) (lines ++ line ∷ []) (registered begun.shelf []) given ends.past) (sym given_is)
+            (one_more h.serves (accepted zero is puts.rolled.many (works_on ends.runs.standing ends.works)));
+        written = let W : Result (List Offered) Stopping → Type 0 = λ reply. Written (says begun.types) (lines ++ line ∷ []) ends.past (text ++ reply_to (entry.Accept 0 lists words now reply)) in
+            subst W (accepted_ok lists h.runs.standing) (written_more _ lines line h.past ends.past text _ h.written (accepted_writes _ line h.past ends.past at_zero lists words now (accept_answer h.past lists) ends.given zero ends.works));
+        gave = ends.gave;
+      }
+
+-- the meaning with the types of a run's beginning
+along_types : (types begun : List DataSet) (now : ℕ) (bytes : List ℕ) (said : Said) → types ≡ begun → meaning types now INTERVAL bytes ≡ said → meaning begun now INTERVAL bytes ≡ said
+along_types types begun now bytes said same is = let M : List DataSet → Type 0 = λ ts. meaning ts now INTERVAL bytes ≡ said in subst M same is
+
+obeyed : (begun : Seen) (lines : List Cut) (text : List ℕ) (old : Seen) (h : HasServed begun lines text old) (bytes : List ℕ) (now : ℕ) (at : IfSome old.pairs.clock (λ pair. now ≡ pair.0))
+    (said : Command) (answer : Reply) (new : Seen) → is_blank_line bytes ≡ false → meaning begun.types now INTERVAL bytes ≡ Ok said → ListsFit old.types said
+    → Obeys said answer (with_moment now old) new → HasServed begun (lines ++ Some bytes ∷ []) (text ++ reply_text answer) new
+obeyed begun lines text old h bytes now at command.Blank answer new not is fit o = (let both : true ≡ false = sym (blank_only begun.types now INTERVAL bytes is) ∙ not in absurd (cc))
+obeyed begun lines text old h bytes now at (command.PutVal lists) answer new not is fit o =
+    let zero = same_put_val begun.types now INTERVAL 0 INTERVAL bytes lists is in
+    let A : Reply → Type 0 = λ a. HasServed begun (lines ++ Some bytes ∷ []) (text ++ reply_text a) new in
+    subst A (sym o.0) (served_put begun lines text old h (Some bytes) now at lists zero.0 new o.1 fit zero.1 is)
+obeyed begun lines text old h bytes now at (command.GetVal id) answer new not is fit o =
+    let A : Reply → Type 0 = λ a. HasServed begun (lines ++ Some bytes ∷ []) (text ++ reply_text a) new in
+    let S : Seen → Type 0 = λ s. HasServed begun (lines ++ Some bytes ∷ []) (text ++ reply_text (reply_of (found_in (opening_of old) (cached (name_of id) old.cache)))) s in
+    subst A (sym o.1) (subst S (sym o.0) (served_asked begun lines text old h (Some bytes) now at id (same_get_val begun.types now INTERVAL 0 INTERVAL bytes id is)))
+obeyed begun lines text old h bytes now at command.ListVal answer new not is fit o =
+    let A : Reply → Type 0 = λ a. HasServed begun (lines ++ Some bytes ∷ []) (text ++ reply_text a) new in
+    let S : Seen → Type 0 = λ s. HasServed begun (lines ++ Some bytes ∷ []) (text ++ reply_text (reply.Listed (rows_of old.cache))) s in
+    subst A (sym o.1) (subst S (sym o.0) (served_listed begun lines text old h (Some bytes) now at (same_list_val begun.types now INTERVAL 0 INTERVAL bytes is)))
+
+module _ (old at_moment : Seen) (now : ℕ) (at : IfSome old.pairs.clock (λ pair. now ≡ pair.0)) (then : at_moment ≡ with_moment now old) where
+  same_types : at_moment.types ≡ old.types
+  same_types = ap (λ (s : Seen). s.types) then
+
+  pub serves_command : (bytes : List ℕ) (said : Command) (answer : Reply) (new : Seen) → is_blank_line bytes ≡ false → meaning at_moment.types now INTERVAL bytes ≡ Ok said
+      → ListsFit at_moment.types said → Obeys said answer at_moment new → Serves (Some bytes) (reply_text answer) old new
+  serves_command bytes said answer new not is fit o begun lines text h =
+      obeyed begun lines text old h bytes now at said answer new not (along_types at_moment.types begun.types now bytes (Ok said) (same_types ∙ h.types) is)
+      (let F : List DataSet → Type 0 = λ types. ListsFit types said in subst F same_types fit)
+      (let O : Seen → Type 0 = λ s. Obeys said answer s new in subst O then o)
+
+  pub serves_fault : (bytes : List ℕ) (fault : LineFault) → meaning at_moment.types now INTERVAL bytes ≡ Err fault → Serves (Some bytes) (reply_text (reply.Fault fault)) old at_moment
+  serves_fault bytes fault is begun lines text h =
+      let S : Seen → Type 0 = λ s. HasServed begun (lines ++ Some bytes ∷ []) (text ++ reply_text (reply.Fault fault)) s in
+      subst S (sym then) (served_refused begun lines text old h (Some bytes) now at fault
+      (same_fault begun.types now INTERVAL 0 INTERVAL bytes fault (along_types at_moment.types begun.types now bytes (Err fault) (same_types ∙ h.types) is)))
+
+  pub serves_too_long : Serves None (reply_text (reply.Fault faults.LineTooLong)) old at_moment
+  serves_too_long begun lines text h =
+      let S : Seen → Type 0 = λ s. HasServed begun (lines ++ None ∷ []) (text ++ reply_text (reply.Fault faults.LineTooLong)) s in
+      subst S (sym then) (served_refused begun lines text old h None now at faults.LineTooLong refl)
+
+pub serves_blank : (old : Seen) (bytes : List ℕ) → is_blank_line bytes ≡ true → Serves (Some bytes) [] old old
+serves_blank old bytes is begun lines text h = served_blank begun lines text old h (Some bytes) (blank_line begun.types 0 INTERVAL bytes is)
+
+-- a fault other than want of memory
+pub known_fault : (fault : LineFault) → (fault ≡ faults.Memory → ⊥) → fault_of fault ≡ Some fault
+known_fault faults.Memory not = absurd (not refl)
+known_fault faults.LineTooLong not = refl
+known_fault faults.NotUtf8 not = refl
+known_fault faults.UnterminatedQuote not = refl
+known_fault faults.UnknownCommand not = refl
+known_fault faults.MissingArgument not = refl
+known_fault faults.BadIdentifier not = refl
+known_fault faults.UnknownType not = refl
+known_fault faults.BadOption not = refl
+known_fault faults.BadTime not = refl
+known_fault faults.WrongNumberOfValues not = refl
+known_fault faults.BadValue not = refl
+
+pub refuses_known : {A : Type 0} (fault : LineFault) (read : Result A LineFault) → fault_of fault ≡ Some fault → Refuses (fault_of fault) read → read ≡ Err fault
+refuses_known fault read known is = let R : Option LineFault → Type 0 = λ f. Refuses f read in subst R known is
+
+pub on_printed : {E : Type 0} (r : Result (List ℕ) E) (text : List ℕ) (line : Cut) (old new : Seen) → Serves line text old new → IfOk r (λ t. t ≡ text) → IfOk r (λ t. Serves line t old new)
+on_printed (Ok t) text line old new s is = let S : List ℕ → Type 0 = λ t. Serves line t old new in subst S (sym is) s
+on_printed (Err e) text line old new s is = tt
+
+pub serves_blank_as : (old : Seen) (bytes : List ℕ) (line : Cut) (reply : List ℕ) → line ≡ Some bytes → reply ≡ [] → is_blank_line bytes ≡ true → Serves line reply old old
+serves_blank_as old bytes line reply is empty are =
+    let L : Cut → Type 0 = λ l. Serves l reply old old in
+    let R : List ℕ → Type 0 = λ r. Serves (Some bytes) r old old in
+    subst L (sym is) (subst R (sym empty) (serves_blank old bytes are))
+
+pub serves_refusal : (old at_moment : Seen) (now : ℕ) (bytes : List ℕ) (fault : LineFault) (answer : Reply) → IfSome old.pairs.clock (λ pair. now ≡ pair.0) → at_moment ≡ with_moment now old
+    → answer ≡ reply.Fault fault → fault_of fault ≡ Some fault → Refuses (fault_of fault) (meaning at_moment.types now INTERVAL bytes) → Serves (Some bytes) (reply_text answer) old at_moment
+serves_refusal old at_moment now bytes fault answer at then is known refuses =
+    let A : Reply → Type 0 = λ a. Serves (Some bytes) (reply_text a) old at_moment in
+    subst A (sym is) (serves_fault old at_moment now at then bytes fault (refuses_known fault _ known refuses))

@@ -1,0 +1,22 @@
+-- The exit status and the message of each end of a run.
+use Rattle.std.specs.Prelude.{ℕ, List, [], ◌++◌, codes}
+use Rattle.cd_serve.specs.declared.end.End.{End}
+use Rattle.cd_serve.specs.declared.end.End.TheVariants as ends
+
+abbrev pub status_of : End → ℕ
+status_of ends.Done = 0
+status_of ends.Usage = 1
+status_of ends.LinkFault = 5
+status_of ends.InputTooLong = 7
+status_of ends.Memory = 9
+
+-- the program's name, what is wrong, and a newline
+abbrev pub message : List ℕ → List ℕ
+message text = codes "collectd: " ++ text ++ codes "\n"
+
+abbrev pub message_of : End → List ℕ
+message_of ends.Done = []
+message_of ends.Usage = message (codes "usage: collectd [-f] [-C file] [-t, -T, --lines or --load N]")
+message_of ends.LinkFault = message (codes "link failed")
+message_of ends.InputTooLong = message (codes "input too long")
+message_of ends.Memory = message (codes "out of memory")

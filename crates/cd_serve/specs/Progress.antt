@@ -1,0 +1,133 @@
+-- How far a run over lines has come.
+use Rattle.std.specs.Prelude.{◌≡◌, ◌⊎◌, ℕ, Bool, List, [], ◌∷◌, ◌++◌, length, map, Option, None, Some, Err}
+use Rattle.cd_value.specs.declared.data.DataSet.{DataSet}
+use Rattle.cd_value.specs.declared.data.ValueList.{ValueList}
+use Rattle.cd_cache.specs.declared.entry.CacheEntry.{CacheEntry}
+use Rattle.cd_sock.specs.declared.fault.LineFault.TheVariants.{LineTooLong}
+use Rattle.cd_sock.specs.declared.command.Command.{Command}
+use Rattle.cd_sock.specs.declared.command.Command.TheVariants as command
+use Rattle.cd_sock.specs.declared.reply.Reply.{Reply}
+use Rattle.cd_sock.specs.declared.reply.Reply.TheVariants as replies
+use Rattle.cd_sock.specs.Lines.{Cut}
+use Rattle.cd_cache.specs.Cache.{cached}
+use Rattle.cd_cache.specs.Rows.{rows_of}
+use Rattle.cd_value.specs.Identifier.{name_of}
+use Rattle.cd_daemon.specs.Answers.{found_in}
+use Rattle.cd_sock.specs.Meaning.{meaning}
+use Rattle.std.specs.Option.{option_map}
+use Rattle.cd_io.specs.Told.{clock_after, dice_after}
+use Rattle.cd_registry.specs.declared.plug.PlugTells.{PlugTells}
+use Rattle.cd_registry.specs.declared.calls.Answer.{Answer}
+use Rattle.cd_registry.specs.declared.calls.Call.{Call}
+use Rattle.cd_daemon.specs.Cached.{stored}
+use Rattle.cd_serve.specs.declared.daemon.Daemon.{Daemon}
+use Rattle.cd_serve.specs.Shelf.{on_shelf}
+use Rattle.cd_history.specs.declared.given.Given.{Given}
+use Rattle.cd_history.specs.declared.given.Given.TheVariants.{Now, Word, Answered}
+use Rattle.cd_history.specs.History.{History}
+use Rattle.cd_daemon.specs.declared.Opening.{Opening}
+use Rattle.cd_transcript.specs.Transcripts.{Said, Written, reply_of}
+use Rattle.cd_transcript.specs.LineRuns.{OnShelf, registered, Works, Serves as ServesLines}
+use Rattle.cd_serve.specs.Standing.{RunsOn, called_first}
+use Rattle.cd_serve.specs.Tells.{Pairs, Gave, GaveAll}
+
+-- the interval of lists whose line names none: 10 seconds
+abbrev pub INTERVAL : ℕ
+INTERVAL = 10737418240
+
+-- what a line says at a moment; of one that is too long nothing is kept
+abbrev pub says : List DataSet → Cut → ℕ → Said
+says types None now = Err LineTooLong
+says types (Some line) now = meaning types now INTERVAL line
+
+-- what is seen of a daemon
+pub record Seen : Type 0 where
+  pub types : List DataSet
+  pub shelf : List OnShelf
+  pub writer : Bool
+  pub cache : List CacheEntry
+  pub given : List Given
+  pub pairs : Pairs
+
+abbrev pub opening_of : Seen → Opening
+opening_of seen = record { types = seen.types }
+
+-- a daemon that began like this has served these lines, and this text was written
+pub record HasServed (begun : Seen) (lines : List Cut) (text : List ℕ) (seen : Seen) : Type 0 where
+  pub past : History
+  pub types : seen.types ≡ begun.types
+  pub runs : RunsOn (opening_of begun) begun.shelf seen.shelf seen.writer [] seen.cache past
+  pub serves : ServesLines (opening_of begun) (says begun.types) lines (registered begun.shelf []) seen.given past
+  pub written : Written (says begun.types) lines past text
+  pub gave : GaveAll begun.pairs seen.pairs seen.given
+
+-- it works from a history on, and these lists are queued
+pub record IsWorking (begun : Seen) (start : History) (before : List Given) (queue : List ValueList) (seen : Seen) : Type 0 where
+  pub past : History
+  pub types : seen.types ≡ begun.types
+  pub runs : RunsOn (opening_of begun) begun.shelf seen.shelf seen.writer queue seen.cache past
+  pub given : List Given
+  pub follows : seen.given ≡ before ++ given
+  pub works : Works (opening_of begun) start given past
+  pub gave : GaveAll begun.pairs seen.pairs seen.given
+
+-- what is seen of a daemon, where these tell what its clock, its dice and its plug-ins tell
+abbrev pub seen_of : {C D P : Type 0} → (C → Option (ℕ × ℕ)) → (D → Option (ℕ × ℕ)) → (P → PlugTells) → Daemon C D P → Seen
+seen_of clock_pair dice_pair tells daemon = record {
+  types = daemon.types;
+  shelf = on_shelf tells daemon.plugs.items;
+  writer = daemon.writer;
+  cache = daemon.cache;
+  given = daemon.given;
+  pairs = record { clock = clock_pair daemon.clock; dice = dice_pair daemon.dice };
+}
+
+-- after a moment
+abbrev pub with_moment : ℕ → Seen → Seen
+with_moment now seen = record seen {
+  given = seen.given ++ Now now ∷ [];
+  pairs = record { clock = option_map clock_after seen.pairs.clock; dice = seen.pairs.dice };
+}
+
+-- after a word of the dice
+abbrev pub with_word : ℕ → Seen → Seen
+with_word word seen = record seen {
+  given = seen.given ++ Word word ∷ [];
+  pairs = record { clock = seen.pairs.clock; dice = option_map dice_after seen.pairs.dice };
+}
+
+-- so many words of the dice were rolled
+pub record Rolled (count : ℕ) (old new : Seen) : Type 0 where
+  pub words : List ℕ
+  pub many : length words ≡ count
+  pub gave : Gave dice_after old.pairs.dice words new.pairs.dice
+  pub seen : new ≡ record old { given = old.given ++ map Word words; pairs = record { clock = old.pairs.clock; dice = new.pairs.dice } }
+
+-- after a list came to the cache at a moment
+abbrev pub with_list : ValueList → ℕ → Seen → Seen
+with_list list now seen = record seen { cache = stored (opening_of seen) (Some list) now seen.cache }
+
+-- after the first plug-in was called and gave that answer
+abbrev pub with_answer : Call → Answer → Seen → Seen
+with_answer call answer seen = record seen { shelf = called_first call answer seen.shelf; given = seen.given ++ Answered answer ∷ [] }
+
+-- the first plug-in was called, where there is one
+abbrev pub WasCalled : Call → Seen → Seen → Type 0
+WasCalled call old new = ((old.shelf ≡ []) × (new ≡ old)) ⊎ ((answer : Answer) × (new ≡ with_answer call answer old))
+
+-- lists were accepted, after a word for each, and handled
+pub record Puts (lists : List ValueList) (old new : Seen) : Type 0 where
+  pub mid : Seen
+  pub rolled : Rolled (length lists) old mid
+  pub works : (begun : Seen) (start : History) (before : List Given) → IsWorking begun start before lists mid → IsWorking begun start before [] new
+
+-- a command was carried out, and has this reply
+abbrev pub Obeys : Command → Reply → Seen → Seen → Type 0
+Obeys command.Blank reply old new = Unit {0}
+Obeys (command.PutVal lists) reply old new = (reply ≡ replies.Success) × Puts lists old new
+Obeys (command.GetVal id) reply old new = (new ≡ old) × (reply ≡ reply_of (found_in (opening_of old) (cached (name_of id) old.cache)))
+Obeys command.ListVal reply old new = (new ≡ old) × (reply ≡ replies.Listed (rows_of old.cache))
+
+-- a line was served, and has this reply
+abbrev pub Serves : Cut → List ℕ → Seen → Seen → Type 0
+Serves line reply old new = (begun : Seen) (lines : List Cut) (text : List ℕ) → HasServed begun lines text old → HasServed begun (lines ++ line ∷ []) (text ++ reply) new

@@ -1,0 +1,50 @@
+// How a run ends.
+ghost use Rattle.std.specs.Prelude.{◌≡◌, IfOk};
+ghost use Rattle.cd_serve.specs.Ends.{status_of, message_of};
+
+use cd_value::{Memory, Text};
+use std::alloc::Global;
+
+/// How a run of the daemon ends.
+#[derive(Clone, Copy, Debug, PartialEq, Eq)]
+pub enum End {
+    /// All lines that were heard were served.
+    Done,
+    /// The words of the command line are none of the program's.
+    Usage,
+    /// The link failed: its count of faults rose.
+    LinkFault,
+    /// 67,108,864 bytes were taken, and more came.
+    InputTooLong,
+    /// Memory was lacking.
+    Memory,
+}
+
+/// The exit status of the program.
+pub fn status(end: &End) -> u8
+    ensures { result ≡ status_of end.now }
+{
+    match end {
+        End::Done => 0,
+        End::Usage => 1,
+        End::LinkFault => 5,
+        End::InputTooLong => 7,
+        End::Memory => 9,
+    }
+}
+
+/// What the program writes on standard error at its end, with a newline: nothing where its work was done.
+pub fn text_of(alloc: Global, end: &End) -> Result<Text, Memory>
+    ensures { IfOk result (λ text. text ≡ message_of end.now) }
+{
+    match end {
+        End::Done => Ok(Text::new(alloc)),
+        End::Usage => Text::of(
+            alloc,
+            "collectd: usage: collectd [-f] [-C file] [-t, -T, --lines or --load N]\n",
+        ),
+        End::LinkFault => Text::of(alloc, "collectd: link failed\n"),
+        End::InputTooLong => Text::of(alloc, "collectd: input too long\n"),
+        End::Memory => Text::of(alloc, "collectd: out of memory\n"),
+    }
+}

@@ -1,0 +1,8 @@
+-- What a count stands for.
+use Rattle.std.specs.Prelude.{◌≡◌, ◌%◌, ◌^◌, List, length}
+use Rattle.cd_turn_tests.specs.declared.count.Count.{Count}
+use Rattle.cd_turn_tests.specs.declared.count.Tick.{Tick}
+
+-- the length of the history, wrapping
+abbrev pub Counts : Unit {0} → List Tick → Count → Type 0
+Counts k log c = c.count ≡ length log % 2 ^ 64

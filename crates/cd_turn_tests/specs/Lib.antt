@@ -1,0 +1,4 @@
+pub mod Ticks
+pub mod Family
+pub mod Counts
+pub mod Towers
