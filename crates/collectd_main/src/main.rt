@@ -10,6 +10,7 @@ use cd_serve::{End, Shelved, run, status, text_of};
 use cd_value::{Memory, Text};
 use std::alloc::Global;
 use std::env;
+use std::io::ErrorKind;
 use std::marker::Send;
 use std::process::ExitCode;
 
@@ -29,23 +30,29 @@ fn shelf(alloc: Global) -> Result<Vec<Shelved>, Memory>
     Ok(plugs)
 }
 
-/// The words of the command line, the program's name first.
-fn words(rt: &HostRuntime) -> Result<Vec<String>, Memory> {
-    let mut words = Vec::new(rt.alloc());
-    let Ok(given) = env::args(rt) else {
-        return Err(Memory);
+/// The words of the command line, the program's name first. One that isn't UTF-8 is none of the program's.
+fn words(rt: &HostRuntime) -> Result<Vec<String>, End> {
+    let given = match env::args(rt) {
+        Ok(given) => given,
+        Err(error) if error.kind() == ErrorKind::InvalidData => return Err(End::Usage),
+        Err(_) => return Err(End::Memory),
     };
+    let mut words = Vec::new(rt.alloc());
     for word in given {
-        words.push(word)?;
+        if words.push(word).is_err() {
+            return Err(End::Memory);
+        }
     }
     Ok(words)
 }
 
 /// Runs the daemon over standard input and output.
-fn run_here(rt: &HostRuntime) -> Result<End, Memory> {
+fn run_here(rt: &HostRuntime) -> Result<End, End> {
     let alloc = rt.alloc();
     let words = words(rt)?;
-    let plugs = shelf(alloc)?;
+    let Ok(plugs) = shelf(alloc) else {
+        return Err(End::Memory);
+    };
     let mut world = RealWorld::new(*rt);
     let mut input = Streams::new(rt.stdin(), rt.stdout());
     let ran = run(
@@ -60,7 +67,10 @@ fn run_here(rt: &HostRuntime) -> Result<End, Memory> {
 }
 
 fn main(rt: HostRuntime) -> ExitCode {
-    let end = run_here(&rt).unwrap_or(End::Memory);
+    let end = match run_here(&rt) {
+        Ok(end) => end,
+        Err(end) => end,
+    };
     if let Ok(text) = text_of(rt.alloc(), &end) {
         let _ = rt.eprint(text.as_str());
     }
