@@ -183,12 +183,10 @@ fn links_fail(rt: HostRuntime) -> Result<(), Fail> {
     Ok(())
 }
 
-/// Blanks and a newline.
-fn blanks(alloc: Global, command: &[u8], length: usize) -> Result<Vec<u8>, Fail> {
+/// A command with blanks up to that length, and a newline.
+fn padded(alloc: Global, command: &[u8], length: usize) -> Result<Vec<u8>, Memory> {
     let mut line = command.to_vec(alloc)?;
-    while line.len() < length {
-        line.push(b' ')?;
-    }
+    line.resize(length, b' ')?;
     line.push(b'\n')?;
     Ok(line)
 }
@@ -196,8 +194,8 @@ fn blanks(alloc: Global, command: &[u8], length: usize) -> Result<Vec<u8>, Fail>
 #[test]
 fn long_lines_are_refused(rt: HostRuntime) -> Result<(), Fail> {
     let alloc = rt.alloc();
-    let mut lines = blanks(alloc, b"LISTVAL".as_slice(), 4096)?;
-    lines.extend_from_slice(blanks(alloc, b"LISTVAL".as_slice(), 4097)?.as_slice())?;
+    let mut lines = padded(alloc, b"LISTVAL".as_slice(), 4096)?;
+    lines.extend_from_slice(padded(alloc, b"LISTVAL".as_slice(), 4097)?.as_slice())?;
     lines.extend_from_slice(b"LISTVAL\n".as_slice())?;
     let (ran, output) = ran(alloc, "--lines", lines.as_slice(), LinkPlan::new(alloc))?;
     assert_eq!(rt; ran.end, End::Done);
