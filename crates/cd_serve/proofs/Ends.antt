@@ -19,8 +19,9 @@ use Rattle.cd_daemon.specs.Calls.{calls_to}
 use Rattle.cd_daemon.specs.Answers.{is_reserved, register_answer, close_answer}
 use Rattle.cd_daemon.specs.Legal.{IsLegal}
 use Rattle.cd_transcript.specs.Transcripts.{Said, of_lines}
-use Rattle.cd_transcript.specs.LineRuns.{OnShelf, registered, returned, nothing, Serves, closed}
+use Rattle.cd_transcript.specs.LineRuns.{OnShelf, registered, returned, nothing, Serves, closed, IsLineRun}
 use Rattle.cd_transcript.proofs.Written.{closed-of_lines}
+use Rattle.cd_transcript.proofs.Determined.{one_history}
 use Rattle.cd_serve.specs.Standing.{Standing, registration_of, AreOf, Writes, RunsOn}
 use Rattle.cd_serve.specs.Runs.{IsRun}
 use Rattle.cd_serve.proofs.Steps.{works_on, same_number, live-is, all_handled}
@@ -182,24 +183,28 @@ at_end P = closed (live (after_stop P)) (after_stop P)
 pub run_ends : {Line : Type 0} (says : Line → ℕ → Said) {K : Opening} {opened shelf : List OnShelf} {writer : Bool} {cache : List CacheEntry} {lines : List Line} {given : List Given} (P : History)
     → RunsOn K opened shelf writer [] cache P → Serves K says lines (registered opened []) given P
     → IsRun K says opened shelf lines given (at_end P)
-run_ends says {K = K} {opened = opened} {cache = cache} {given = given} P s serves = record {
+run_ends says {K = K} {opened = opened} {cache = cache} {lines = lines} {given = given} P s serves = record {
   legal = few_handed_out opened (live (after_stop P)) (after_stop P) (let A : List Registration → Type 0 = AreOf opened in subst A (sym regs) s.of_shelf)
       (let S : List Registration → Type 0 = λ gs. Standing K true gs [] cache (after_stop P) in subst S (sym regs) (stopped_standing s.standing));
-  made = record {
-    served = P;
-    stopped = after_stop P;
-    given_lines = given;
-    given_last = [];
-    serves = serves;
-    stops = works_on (stopped_standing s.standing) nothing;
-    hands_out = refl;
-    given_is = sym (append-nil given);
-  };
+  made = is_made;
+  only = λ other r. one_history K says r is_made;
   handled = closed-handles (live (after_stop P)) (after_stop P) ∙ all_handled s.standing ∙ ap length (sym (closed-kept (live (after_stop P)) (after_stop P)));
   told = s.back ∙ sym (returned-same P (at_end P) (closed-registrations (live (after_stop P)) (after_stop P))
       (λ r. closed-calls_to (live (after_stop P)) (after_stop P) r ∙ append-nil (calls_to r P)) (closed-answers_to (live (after_stop P)) (after_stop P)) opened);
 }
   where
+    is_made : IsLineRun K says opened lines given (at_end P)
+    is_made = record {
+      served = P;
+      stopped = after_stop P;
+      given_lines = given;
+      given_last = [];
+      serves = serves;
+      stops = works_on (stopped_standing s.standing) nothing;
+      hands_out = refl;
+      given_is = sym (append-nil given);
+    }
+
     regs : live (after_stop P) ≡ s.regs
     regs = live-is (stopped_standing s.standing)
 

@@ -20,11 +20,12 @@ use Rattle.cd_serve.specs.Progress.{Seen, says}
 use Rattle.cd_serve.specs.Sessions.{LIMIT, LinkTells, Spoke}
 
 -- The history of a run over these lines: it is a one-thread daemon's, and the one that the shelf, the lines and what was
--- given make; every list that was kept was handled; and each plug-in of the shelf came back having got the calls of the
--- registrations of its name.
+-- given make, which make no other; every list that was kept was handled; and each plug-in of the shelf came back having
+-- got the calls of the registrations of its name.
 pub record IsRun {Line : Type 0} (K : Opening) (says : Line → ℕ → Said) (shelf back : List OnShelf) (lines : List Line) (given : List Given) (H : History) : Type 0 where
   pub legal : IsLegal K H
   pub made : IsLineRun K says shelf lines given H
+  pub only : (other : History) → IsLineRun K says shelf lines given other → other ≡ H
   pub handled : handles H ≡ length (kept H)
   pub told : back ≡ returned H shelf
 
