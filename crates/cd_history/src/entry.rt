@@ -68,10 +68,7 @@ pub struct Handled {
 #[derive(Drop)]
 pub enum Found {
     /// The names of the data sources and their rates.
-    Got {
-        names: Names,
-        rates: Rates,
-    },
+    Got { names: Names, rates: Rates },
     /// The times and names of all cached lists.
     Listed(Rows),
     NoSuchValue,

@@ -2,6 +2,7 @@
 use crate::{Answer, Call, Kinds, Plug, Telling};
 use cd_value::{Identifier, Notification, Sequence, Severity, Text, Value, ValueList};
 use std::alloc::Global;
+use std::process::Abort;
 use std::test::Fail;
 
 /// A plug-in enters a call, whatever its type.
@@ -33,30 +34,56 @@ fn note(alloc: Global) -> Result<Notification, Fail> {
     })
 }
 
+/// The call that is entered at a place.
+fn call_at(place: usize, alloc: Global) -> Result<Call, Fail> {
+    match place {
+        0 => Ok(Call::Configure(Text::of(alloc, "a 1\n")?)),
+        1 => Ok(Call::Write(list(alloc)?)),
+        2 => Ok(Call::Flush {
+            number: 4,
+            timeout: Some(5),
+            name: Some(Text::of(alloc, "h/p/derive")?),
+        }),
+        3 => Ok(Call::Missing(list(alloc)?)),
+        _ => Ok(Call::Notify(note(alloc)?)),
+    }
+}
+
+/// Whether a call is the one that was entered at a place.
+fn is_the_call(place: usize, call: &Call) -> bool {
+    match call {
+        Call::Configure(text) => place == 0 && text.as_str() == "a 1\n",
+        Call::Write(list) => place == 1 && list.values.len() == 1 && list.time == 1,
+        Call::Flush {
+            number,
+            timeout,
+            name,
+        } => place == 2 && *number == 4 && *timeout == Some(5) && name.is_some(),
+        Call::Missing(list) => place == 3 && list.interval == 2,
+        Call::Notify(note) => place == 4 && note.message.as_str() == "well",
+    }
+}
+
 #[test]
 fn keeps_calls_in_order(rt: HostRuntime) -> Result<(), Fail> {
     let alloc = rt.alloc();
-    let answers = [Answer::Done, Answer::Failed].to_vec(alloc)?;
-    let mut plug = Telling::new(alloc, 7, answers);
-    assert_eq!(rt;
-        enter(&mut plug, &Call::Configure(Text::of(alloc, "a 1\n")?)),
-        Answer::Done
-    );
-    assert_eq!(rt;
-        enter(&mut plug, &Call::Write(list(alloc)?)),
-        Answer::Failed
-    );
-    let flush = Call::Flush {
-        number: 4,
-        timeout: Some(5),
-        name: Some(Text::of(alloc, "h/p/derive")?),
-    };
-    assert_eq!(rt; enter(&mut plug, &flush), Answer::Done);
-    assert_eq!(rt;
-        enter(&mut plug, &Call::Missing(list(alloc)?)),
-        Answer::Done
-    );
-    assert_eq!(rt; enter(&mut plug, &Call::Notify(note(alloc)?)), Answer::Done);
+    let mut plug = Telling::new(alloc, 7, [Answer::Done, Answer::Failed].to_vec(alloc)?);
+    for place in 0..5 {
+        let want = if place == 1 {
+            Answer::Failed
+        } else {
+            Answer::Done
+        };
+        assert_eq!(rt;
+            enter(&mut plug, &call_at(place, alloc)?),
+            want,
+            "at {place}"
+        );
+    }
+    tells_five(&rt, &plug)
+}
+
+fn tells_five(rt: &impl Abort, plug: &Telling) -> Result<(), Fail> {
     let calls = plug.calls().ok_or("no calls")?;
     assert_eq!(rt; calls.len(), 5);
     for (place, answered) in calls.iter().enumerate() {
@@ -66,20 +93,7 @@ fn keeps_calls_in_order(rt: HostRuntime) -> Result<(), Fail> {
             Answer::Done
         };
         assert_eq!(rt; answered.answer, want, "at {place}");
-        let is_it = match &answered.call {
-            Call::Configure(text) => place == 0 && text.as_str() == "a 1\n",
-            Call::Write(list) => place == 1
-                && list.values.len() == 1
-                && list.id.host.as_str() == "h",
-            Call::Flush {
-                number,
-                timeout,
-                name,
-            } => place == 2 && *number == 4 && *timeout == Some(5) && name.is_some(),
-            Call::Missing(list) => place == 3 && list.time == 1,
-            Call::Notify(note) => place == 4 && note.message.as_str() == "well",
-        };
-        assert!(rt; is_it, "at {place}");
+        assert!(rt; is_the_call(place, &answered.call), "at {place}");
     }
     Ok(())
 }

@@ -1,7 +1,7 @@
 -- Printed replies as their clients read them.
-use Rattle.std.proofs.Common.{◌≡◌, ℕ, zero, suc, ◌+◌, ◌/◌, ◌%◌, ◌^◌, ◌<◌, ◌≤◌, ℤ, pos, negsuc, Bool, true, false, not, ◌&&◌, cond, List, [], ◌∷◌, ◌++◌, length, take, get_or, Option, Some, None, refl, sym, ap, ◌∙◌, subst, arith, append_assoc, lit<}
-use Rattle.std.specs.Prelude.{◌==◌, codes, nat_lt, IsTrue}
-use Rattle.std.specs.List.{list_all, list_any, position_or_len, before_first, flat_map}
+use Rattle.std.proofs.Common.{◌≡◌, ℕ, zero, suc, ◌+◌, ◌/◌, ◌%◌, ◌^◌, ◌<◌, ◌≤◌, ℤ, pos, negsuc, Bool, true, false, not, cond, List, [], ◌∷◌, ◌++◌, length, take, get_or, Option, Some, None, refl, sym, ap, ◌∙◌, subst, arith, append_assoc, lit<}
+use Rattle.std.specs.Prelude.{◌==◌, codes}
+use Rattle.std.specs.List.{list_all, list_any, position_or_len, flat_map}
 use Rattle.std.specs.Fmt.{decimal, digits, digits_onto, digit_glyph}
 use Rattle.std.specs.Str.Parse.{IsNumeral, digits_value, signed_digits_value, starts_with_minus, without_leading_sign}
 use Rattle.std.proofs.Math.Seq.{take-append_seam}
@@ -12,12 +12,12 @@ use Rattle.std.proofs.lemmas.List.Folds.{list_all-append, list_any-append}
 use Rattle.std.proofs.lemmas.List.Splits.{slice_split_at}
 use Rattle.std.proofs.lemmas.Str.Parse.{digit_at, without_leading_plus_none}
 use Rattle.cd_value.specs.declared.data.Rate.{Rate}
-use Rattle.cd_value.specs.Print.{digit, six_digits, unsigned_text, millionths_text, number_or_nan, rate_text}
+use Rattle.cd_value.specs.Print.{digit, six_digits, unsigned_text, number_or_nan}
 use Rattle.cd_value.specs.Rates.{millionths}
 use Rattle.cd_sock.specs.Lines.{IsInLine, is_newline, lines, unfinished, last_part, whole_lines}
 use Rattle.cd_sock.specs.declared.fault.LineFault.{LineFault}
 use Rattle.cd_sock.specs.declared.fault.LineFault.TheVariants as faults
-use Rattle.cd_sock.specs.Replies.{fault_text, line, rate_line, rate_lines, rate_or_nan, row_line, values_found}
+use Rattle.cd_sock.specs.Replies.{fault_text, line, rate_lines, rate_or_nan, row_line, values_found}
 use Rattle.cd_sock.specs.Framing.{AreFramed, HasStatus, IsFramed, first_word, is_one_line, is_space, lines_told, status}
 use Rattle.cd_sock.proofs.Pieces.{cons_in, empty_in, lines_at, parts_exist}
 

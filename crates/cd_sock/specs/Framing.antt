@@ -4,7 +4,7 @@ use Rattle.std.specs.List.{list_all, list_any, before_first}
 use Rattle.std.specs.Str.Parse.{IsNumeral, signed_digits_value, without_leading_sign}
 use Rattle.cd_sock.specs.Lines.{is_newline, lines, unfinished}
 use Rattle.cd_sock.specs.declared.reply.Reply.{Reply}
-use Rattle.cd_sock.specs.declared.reply.Reply.TheVariants.{Success, Got, Listed, Fault, NoSuchValue}
+use Rattle.cd_sock.specs.declared.reply.Reply.TheVariants.{Got, Listed}
 
 abbrev pub is_space : ℕ → Bool
 is_space byte = byte == 32

@@ -14,3 +14,6 @@ pub use command::{Command, is_blank_line};
 pub use fault::LineFault;
 pub use lines::{Line, LineCutter};
 pub use reply::{Reply, print_reply};
+
+#[cfg(test)]
+mod tests;

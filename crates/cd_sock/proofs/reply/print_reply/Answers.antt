@@ -4,7 +4,7 @@ use Rattle.std.specs.List.{flat_map, list_all}
 use Rattle.std.proofs.lemmas.Result.{IfOk-weaker}
 use Rattle.cd_sock.specs.declared.reply.Reply.{Reply}
 use Rattle.cd_sock.specs.Framing.{HasPlainNames, IsFramed, is_one_line}
-use Rattle.cd_sock.specs.Replies.{fault_text, line, rate_lines, row_line, values_found}
+use Rattle.cd_sock.specs.Replies.{line, rate_lines, row_line, values_found}
 use Rattle.cd_sock.proofs.Frames.{fault_framed, rates_framed, refusal_framed, rows_framed, success_framed}
 use Rattle.cd_sock.proofs.reply.print_reply.Goals as goal
 

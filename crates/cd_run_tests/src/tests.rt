@@ -1,0 +1,274 @@
+// Runs over memory with one plug-in, whose answers and lines are worked by hand.
+ghost use Rattle.std.specs.Prelude.{◌≤◌, IfOk, length};
+
+use cd_history::Given;
+use cd_io::{LinkPlan, MemLink, MemWorld};
+use cd_registry::{Answer, Call, Kinds, Plug, Probe, Telling};
+use cd_serve::{End, RanOf, Shelved, ShelvedOf, ShelvedProbeOf, run, run_of, status, text_of};
+use cd_value::{Memory, Text, Value};
+use std::alloc::Global;
+use std::marker::Send;
+use std::test::Fail;
+
+/// A second, in units of 2^-30 s.
+const SECOND: u64 = 1 << 30;
+
+/// The most bytes that a run takes.
+const LIMIT: usize = 67_108_864;
+
+/// The program's words.
+fn words(alloc: Global, word: &str) -> Result<Vec<String>, Memory> {
+    let mut words = Vec::new(alloc);
+    words.push(String::from_str(alloc, "collectd")?)?;
+    words.push(String::from_str(alloc, word)?)?;
+    Ok(words)
+}
+
+/// A shelf with the writer `w`.
+fn shelf(alloc: Global) -> Result<Vec<ShelvedOf<Telling>>, Memory>
+    ensures few { IfOk result (λ plugs. length plugs.items ≤ 1) }
+{
+    let plug = ShelvedOf {
+        name: Text::of(alloc, "w")?,
+        kinds: Kinds::WRITE,
+        object: Telling::new(alloc, 7, Vec::new(alloc)),
+    };
+    let mut plugs = Vec::new(alloc);
+    plugs.push(plug)?;
+    Ok(plugs)
+}
+
+/// A run over these bytes, with what it wrote.
+fn ran(
+    alloc: Global,
+    word: &str,
+    bytes: &[u8],
+    plan: LinkPlan,
+) -> Result<(RanOf<Telling, ()>, Vec<u8>), Fail> {
+    let words = words(alloc, word)?;
+    let plugs = shelf(alloc)?;
+    let probes: Vec<ShelvedProbeOf<()>> = Vec::new(alloc);
+    let mut world = MemWorld::new((2_000_000_000 * SECOND, SECOND), (5, 3));
+    let mut input = MemLink::new(alloc, bytes.to_vec(alloc)?, plan);
+    let ran = run_of(
+        alloc,
+        words.as_slice(),
+        &mut world,
+        &mut input,
+        plugs,
+        probes,
+    );
+    let output = input.output().ok_or("the output isn't told")?;
+    Ok((ran, output.to_vec(alloc)?))
+}
+
+/// How many calls the plug-in that came back has got.
+fn calls_of(ran: &RanOf<Telling, ()>) -> Option<usize> {
+    let plug = ran.plugs.first()?;
+    Some(plug.object.calls()?.len())
+}
+
+/// The time, the interval and the first value of the first write that came back.
+fn first_write(ran: &RanOf<Telling, ()>) -> Option<(u64, u64, Value)> {
+    let plug = ran.plugs.first()?;
+    let entered = plug.object.calls()?.first()?;
+    match &entered.call {
+        Call::Write(list) => Some((list.time, list.interval, *list.values.as_slice().first()?)),
+        _ => None,
+    }
+}
+
+#[test]
+fn one_line_reaches_the_plug_in(rt: HostRuntime) -> Result<(), Fail> {
+    let alloc = rt.alloc();
+    let line = b"PUTVAL h/p/derive interval=10 1000:5\n";
+    let (ran, output) = ran(alloc, "--lines", line.as_slice(), LinkPlan::new(alloc))?;
+    assert_eq!(rt; ran.end, End::Done);
+    assert_eq!(rt; output.as_slice(), b"0 Success\n".as_slice());
+    assert_eq!(rt; calls_of(&ran), Some(1));
+    assert_eq!(rt;
+        first_write(&ran),
+        Some((1000 * SECOND, 10 * SECOND, Value::Derive(5)))
+    );
+    let given = [
+        Given::Now(2_000_000_000 * SECOND),
+        Given::Word(5),
+        Given::Now(2_000_000_001 * SECOND),
+        Given::Answered(Answer::Done),
+    ];
+    assert_eq!(rt; ran.given.as_slice(), given.as_slice());
+    Ok(())
+}
+
+/// Lines and what is written for them.
+const ROWS: [(&str, &str); 10] = [
+    ("", ""),
+    ("\n \t\r\n", ""),
+    (
+        "PUTVAL h/p/counter 100:4294967290 110:5\nGETVAL h/p/counter\n",
+        "0 Success\n1 Value found\nvalue=1.100000\n",
+    ),
+    (
+        "PUTVAL h/p/derive 100:1 100:5\nGETVAL h/p/derive\nLISTVAL\n",
+        "0 Success\n1 Value found\nvalue=NaN\n1 Value found\n100 h/p/derive\n",
+    ),
+    (
+        "PUTVAL h/p/gauge 1:1.26e+00\nGETVAL h/p/gauge\nPUTVAL h/p/gauge 2:-0.0000009\nGETVAL h/p/gauge\nPUTVAL h/p/gauge 3:U\nGETVAL h/p/gauge",
+        "0 Success\n1 Value found\nvalue=1.260000\n0 Success\n1 Value found\nvalue=0.000000\n0 Success\n1 Value found\nvalue=NaN\n",
+    ),
+    (
+        "PUTVAL h/p/gauge 1:1e24\nGETVAL h/p/gauge\nPUTVAL h/p/gauge 2:1.1e24\n",
+        "0 Success\n1 Value found\nvalue=1000000000000000000000000.000000\n-1 Bad value\n",
+    ),
+    (
+        "PUTVAL h/p/gauge 17179869183.999999999:1\nLISTVAL\nPUTVAL h/p/gauge 17179869184:1\n",
+        "0 Success\n1 Value found\n17179869183 h/p/gauge\n-1 Bad time\n",
+    ),
+    (
+        "GETVAL h/p/none\nGETVAL h\nPUTVAL h/p/none 1:1\nPUTVAL h/p/derive 1:1:1\nFOO\nGETVAL \"h\nGETVAL\nLISTVAL x\n",
+        "-1 No such value\n-1 Bad identifier\n-1 Unknown type\n-1 Wrong number of values\n-1 Unknown command\n-1 Unterminated quote\n-1 Missing argument\n-1 Bad option\n",
+    ),
+    (
+        "PUTVAL b/p/gauge 1:1\nPUTVAL a/p/gauge 2:2\nPUTVAL a-b/p/gauge 3:3\nlistval\n",
+        "0 Success\n0 Success\n0 Success\n3 Values found\n3 a-b/p/gauge\n2 a/p/gauge\n1 b/p/gauge\n",
+    ),
+    (
+        "PUTVAL h/p/absolute 10:7 20:7\ngetval h/p/absolute\nPUTVAL h/p/absolute 15:7\nGETVAL h/p/absolute\n",
+        "0 Success\n1 Value found\nvalue=0.700000\n0 Success\n1 Value found\nvalue=0.700000\n",
+    ),
+];
+
+#[test]
+fn lines_are_answered(rt: HostRuntime) -> Result<(), Fail> {
+    let alloc = rt.alloc();
+    for (lines, written) in ROWS {
+        let mut plan = LinkPlan::new(alloc);
+        plan.piece_limit = 1;
+        let (ran, output) = ran(alloc, "--lines", lines.as_bytes(), plan)?;
+        assert_eq!(rt; ran.end, End::Done);
+        assert_eq!(rt; output.as_slice(), written.as_bytes());
+    }
+    Ok(())
+}
+
+#[test]
+fn older_list_is_still_written(rt: HostRuntime) -> Result<(), Fail> {
+    let alloc = rt.alloc();
+    let lines = b"PUTVAL h/p/derive 100:1 100:5 90:3\n";
+    let (ran, _) = ran(alloc, "--lines", lines.as_slice(), LinkPlan::new(alloc))?;
+    assert_eq!(rt; calls_of(&ran), Some(3));
+    Ok(())
+}
+
+#[test]
+fn links_fail(rt: HostRuntime) -> Result<(), Fail> {
+    let alloc = rt.alloc();
+    let lines = b"PUTVAL h/p/derive 1000:1\nPUTVAL h/p/derive 1010:2\n";
+    let mut says = LinkPlan::new(alloc);
+    says.failing_says.push(1)?;
+    let (second, output) = ran(alloc, "--lines", lines.as_slice(), says)?;
+    assert_eq!(rt; second.end, End::LinkFault);
+    assert_eq!(rt; output.as_slice(), b"0 Success\n".as_slice());
+    assert_eq!(rt; calls_of(&second), Some(2));
+    let mut hears = LinkPlan::new(alloc);
+    hears.failing_hears.push(0)?;
+    let (first, output) = ran(alloc, "--lines", lines.as_slice(), hears)?;
+    assert_eq!(rt; first.end, End::LinkFault);
+    assert_eq!(rt; output.len(), 0);
+    let mut quiet = LinkPlan::new(alloc);
+    quiet.quiet_hears.push(0)?;
+    let (early, output) = ran(alloc, "--lines", lines.as_slice(), quiet)?;
+    assert_eq!(rt; early.end, End::Done);
+    assert_eq!(rt; output.len(), 0);
+    Ok(())
+}
+
+/// A command with blanks up to that length, and a newline.
+fn padded(alloc: Global, command: &[u8], length: usize) -> Result<Vec<u8>, Memory> {
+    let mut line = command.to_vec(alloc)?;
+    line.resize(length, b' ')?;
+    line.push(b'\n')?;
+    Ok(line)
+}
+
+#[test]
+fn long_lines_are_refused(rt: HostRuntime) -> Result<(), Fail> {
+    let alloc = rt.alloc();
+    let mut lines = padded(alloc, b"LISTVAL".as_slice(), 4096)?;
+    lines.extend_from_slice(padded(alloc, b"LISTVAL".as_slice(), 4097)?.as_slice())?;
+    lines.extend_from_slice(b"LISTVAL\n".as_slice())?;
+    let (ran, output) = ran(alloc, "--lines", lines.as_slice(), LinkPlan::new(alloc))?;
+    assert_eq!(rt; ran.end, End::Done);
+    let written = b"0 Values found\n-1 Line too long\n0 Values found\n";
+    assert_eq!(rt; output.as_slice(), written.as_slice());
+    Ok(())
+}
+
+#[test]
+fn too_much_input_ends_the_run(rt: HostRuntime) -> Result<(), Fail> {
+    let alloc = rt.alloc();
+    let mut bytes = b"LISTVAL\n".to_vec(alloc)?;
+    bytes.resize(LIMIT, b'\n')?;
+    let (full, _) = ran(alloc, "--lines", bytes.as_slice(), LinkPlan::new(alloc))?;
+    assert_eq!(rt; full.end, End::Done);
+    bytes.push(b'\n')?;
+    let (more, output) = ran(alloc, "--lines", bytes.as_slice(), LinkPlan::new(alloc))?;
+    assert_eq!(rt; more.end, End::InputTooLong);
+    assert_eq!(rt; output.as_slice(), b"0 Values found\n".as_slice());
+    Ok(())
+}
+
+#[test]
+fn words_and_ends(rt: HostRuntime) -> Result<(), Fail> {
+    let alloc = rt.alloc();
+    let (other, output) = ran(alloc, "-t", b"LISTVAL\n".as_slice(), LinkPlan::new(alloc))?;
+    assert_eq!(rt; other.end, End::Usage);
+    assert_eq!(rt; output.len(), 0);
+    assert_eq!(rt; calls_of(&other), Some(0));
+    for (end, number, text) in [
+        (End::Done, 0, ""),
+        (
+            End::Usage,
+            1,
+            "collectd: usage: collectd [-f] [-C file] [-t, -T, --lines or --load N]\n",
+        ),
+        (End::LinkFault, 5, "collectd: link failed\n"),
+        (End::InputTooLong, 7, "collectd: input too long\n"),
+        (End::Memory, 9, "collectd: out of memory\n"),
+    ] {
+        assert_eq!(rt; status(&end), number);
+        assert_eq!(rt; text_of(alloc, &end)?.as_str(), text);
+    }
+    Ok(())
+}
+
+#[test]
+fn boxed_plug_in_comes_back(rt: HostRuntime) -> Result<(), Fail> {
+    let alloc = rt.alloc();
+    let words = words(alloc, "--lines")?;
+    let object: Box<dyn Plug + Send> = Box::new(alloc, Telling::new(alloc, 7, Vec::new(alloc)))?;
+    let mut plugs = Vec::new(alloc);
+    plugs.push(Shelved {
+        name: Text::of(alloc, "w")?,
+        kinds: Kinds::WRITE,
+        object,
+    })?;
+    let probes: Vec<ShelvedProbeOf<Box<dyn Probe + Send>>> = Vec::new(alloc);
+    let mut world = MemWorld::new((0, 1), (0, 1));
+    let mut input = MemLink::new(
+        alloc,
+        b"PUTVAL h/p/derive 1:5\n".to_vec(alloc)?,
+        LinkPlan::new(alloc),
+    );
+    let ran = run(
+        alloc,
+        words.as_slice(),
+        &mut world,
+        &mut input,
+        plugs,
+        probes,
+    );
+    assert_eq!(rt; ran.end, End::Done);
+    assert_eq!(rt; ran.plugs.len(), 1);
+    Ok(())
+}
