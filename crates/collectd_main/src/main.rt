@@ -14,14 +14,12 @@ use std::io::ErrorKind;
 use std::marker::Send;
 use std::process::ExitCode;
 
-/// The writer that the program brings, on its shelf.
-fn shelf(alloc: Global) -> Result<Vec<Shelved>, Memory>
+/// A shelf with a writer.
+fn shelf_of(alloc: Global, object: Box<dyn Plug + Send>) -> Result<Vec<Shelved>, Memory>
     ensures few { IfOk result (λ plugs. length plugs.items ≤ 1) }
 {
-    let name = Text::of(alloc, "w")?;
-    let object: Box<dyn Plug + Send> = Box::new(alloc, Telling::new(alloc, 0, Vec::new(alloc)))?;
     let plug = Shelved {
-        name,
+        name: Text::of(alloc, "w")?,
         kinds: Kinds::WRITE,
         object,
     };
@@ -50,7 +48,10 @@ fn words(rt: &HostRuntime) -> Result<Vec<String>, End> {
 fn run_here(rt: &HostRuntime) -> Result<End, End> {
     let alloc = rt.alloc();
     let words = words(rt)?;
-    let Ok(plugs) = shelf(alloc) else {
+    let Ok(object) = Box::new(alloc, Telling::new(alloc, 0, Vec::new(alloc))) else {
+        return Err(End::Memory);
+    };
+    let Ok(plugs) = shelf_of(alloc, object) else {
         return Err(End::Memory);
     };
     let mut world = RealWorld::new(*rt);
