@@ -1,12 +1,7 @@
 // The daemon of a run on one thread.
-ghost use Rattle.std.specs.Prelude.{◌≡◌, ◌≢◌, false, ◌++◌, [], ◌∷◌, ◌≤◌, ℕ, List, length, map, true, IfOk, IfSome, OnOk, Some, is_some};
-ghost use Rattle.std.specs.Option.{option_map};
-ghost use Rattle.std.specs.List.{list_all};
+ghost use Rattle.std.specs.Prelude.{◌≡◌, false, [], ◌∷◌, ℕ, List, map, IfOk, IfSome, OnOk, Some};
 ghost use Rattle.cd_registry.specs.Told.{told_after};
-ghost use Rattle.cd_io.specs.Told.{clock_after, dice_after};
 ghost use Rattle.cd_value.specs.declared.data.ValueList.{ValueList};
-ghost use Rattle.cd_value.specs.Identifier.{name_of};
-ghost use Rattle.cd_types.specs.Types.{fits};
 ghost use Rattle.cd_history.specs.declared.given.Given.{Given};
 ghost use Rattle.cd_history.specs.History.{History};
 ghost use Rattle.cd_cache.specs.Cache.{cached};

@@ -1,10 +1,9 @@
 // The run of the daemon on one thread.
-ghost use Rattle.std.specs.Prelude.{◌≡◌, ◌≢◌, ◌≤◌, ◌⊎◌, ◌↔◌, true, false, IsTrue, [], IfOk, IfErr, length, map, not, string_bytes};
-ghost use Rattle.std.specs.Str.{bytes_eq};
+ghost use Rattle.std.specs.Prelude.{◌≡◌, ◌≤◌, ◌⊎◌, ◌↔◌, true, false, IfOk, IfErr, length, map, string_bytes};
 ghost use Rattle.cd_io.specs.Causes.{Rose};
 ghost use Rattle.cd_daemon.specs.Answers.{is_reserved};
 ghost use Rattle.cd_serve.specs.Shelf.{on_shelf, places};
-ghost use Rattle.cd_serve.specs.Progress.{HasServed, seen_of};
+ghost use Rattle.cd_serve.specs.Progress.{seen_of};
 ghost use Rattle.cd_serve.specs.Sessions.{link_tells};
 ghost use Rattle.cd_serve.specs.Runs.{IsWithin, Promises, is_lines, opened, writes_first};
 

@@ -1,5 +1,5 @@
 // Lines from a link, and their replies to it.
-ghost use Rattle.std.specs.Prelude.{◌≡◌, ◌++◌, ◌∷◌, [], ◌≤◌, ◌<◌, ℕ, List, ◌⊎◌, Err, IfOk, IfSome, OnOk, OnErr, length, take, drop};
+ghost use Rattle.std.specs.Prelude.{◌≡◌, ◌++◌, [], ◌≤◌, ◌<◌, ℕ, List, ◌⊎◌, Err, IfOk, IfSome, OnOk, OnErr, length, take, drop};
 ghost use Rattle.cd_sock.specs.Lines.{content, cut_lines};
 ghost use Rattle.cd_serve.specs.Shelf.{on_shelf, places};
 ghost use Rattle.cd_serve.specs.Progress.{Seen, Serves, HasServed, seen_of};
