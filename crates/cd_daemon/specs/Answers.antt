@@ -21,8 +21,8 @@ use Rattle.cd_cache.specs.declared.entry.CacheEntry.{CacheEntry}
 use Rattle.cd_cache.specs.Cache.{cached}
 use Rattle.cd_cache.specs.Rows.{rows_of}
 use Rattle.cd_daemon.specs.declared.Opening.{Opening}
-use Rattle.cd_daemon.specs.Cached.{cache_after, how_stored}
-use Rattle.cd_daemon.specs.Calls.{calls_to, next_list, pending}
+use Rattle.cd_daemon.specs.Handling.{next_handling}
+use Rattle.cd_daemon.specs.Calls.{cache_after, calls_to, pending}
 
 -- the answer, unless a stop came before
 abbrev pub unless_stopped : {A : Type 0} → History → A → Result A Stopping
@@ -50,18 +50,20 @@ abbrev pub home_or_pending : ℕ → Result (Unit {0}) RetireFault
 home_or_pending n = if nat_eq n 0 then Ok tt else Err (held_back.Pending n)
 
 -- the object of a closed registration is handed out once, when it is at home and no call waits for it
-abbrev pub retire_answer : History → ℕ → Result (Unit {0}) RetireFault
-retire_answer P r =
+abbrev pub retire_answer : Opening → History → ℕ → Result (Unit {0}) RetireFault
+retire_answer K P r =
     if not (is_closed r P) || is_retired r P then Err held_back.NotRegistered
-    else elim (taken_by r P) [ Some a ↦ Err (held_back.Out a) | None ↦ home_or_pending (pending P r) ]
+    else elim (taken_by r P) [ Some a ↦ Err (held_back.Out a) | None ↦ home_or_pending (pending K P r) ]
 
--- each list is kept
-abbrev pub accept_answer : History → List ValueList → Result (List Offered) Stopping
-accept_answer P lists = unless_stopped P (map (λ list. Kept) lists)
+-- each list is kept, whatever its word
+abbrev pub accept_answer : Opening → History → List ValueList → List ℕ → Result (List Offered) Stopping
+accept_answer K P lists words = unless_stopped P (map (λ list. Kept) lists)
 
--- a list is stored unless what is cached under its name is as new; no writer is skipped
-abbrev pub handle_answer : Opening → History → Handled
-handle_answer K P = record { how = how_stored (next_list P) (cache_after K P); skipped = 0 }
+-- how the list was stored, and how many writers that were named were skipped
+abbrev pub handle_answer : Opening → History → ℕ → Handled
+handle_answer K P now =
+    let done = next_handling K (cache_after K P) P now in
+    record { how = done.how; skipped = done.skipped }
 
 -- the names of the data sources of a cached list
 abbrev pub source_names : Opening → CacheEntry → List (List ℕ)
@@ -77,17 +79,17 @@ query_answer K P None = found.Listed (rows_of (cache_after K P))
 query_answer K P (Some name) = found_in K (cached name (cache_after K P))
 
 -- a plug-in that is at home and for which a call waits
-abbrev pub is_ready : History → Registration → Bool
-is_ready P g = is_plug g.joining && not (is_retired g.number P) && not (is_some (taken_by g.number P)) && not (nat_eq (pending P g.number) 0)
+abbrev pub is_ready : Opening → History → Registration → Bool
+is_ready K P g = is_plug g.joining && not (is_retired g.number P) && not (is_some (taken_by g.number P)) && not (nat_eq (pending K P g.number) 0)
 
 -- the least of them
-abbrev pub ready : History → Option ℕ
-ready P = elim (find (is_ready P) (registrations P)) [ None ↦ None | Some g ↦ Some g.number ]
+abbrev pub ready : Opening → History → Option ℕ
+ready K P = elim (find (is_ready K P) (registrations P)) [ None ↦ None | Some g ↦ Some g.number ]
 
 -- the call that the next Take of r gets
-abbrev pub next_call : History → ℕ → Option Call
-next_call P r = slice_get (calls_to r P) (takes r P)
+abbrev pub next_call : Opening → History → ℕ → Option Call
+next_call K P r = slice_get (calls_to K r P) (takes r P)
 
 -- nothing is queued, and no plug-in is ready
-abbrev pub is_idle : History → Bool
-is_idle P = nat_le (length (kept P)) (handles P) && not (is_some (ready P))
+abbrev pub is_idle : Opening → History → Bool
+is_idle K P = nat_le (length (kept P)) (handles P) && not (is_some (ready K P))

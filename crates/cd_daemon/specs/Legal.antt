@@ -1,27 +1,27 @@
 -- Which histories are those of a one-thread daemon: each reply is its answer after the entries before it.
-use Rattle.std.specs.Prelude.{◌≡◌, ◌<◌, IsTrue, IfSome, [], length, Some}
+use Rattle.std.specs.Prelude.{◌≡◌, ◌<◌, IsTrue, IfSome, true, [], length, Some}
 use Rattle.std.specs.List.{list_all}
 use Rattle.cd_types.specs.Types.{fits}
-use Rattle.cd_history.specs.declared.entry.Entry.{Entry}
 use Rattle.cd_history.specs.declared.entry.Entry.TheVariants as entry
-use Rattle.cd_history.specs.History.{History, ◌▸◌, handles, kept}
+use Rattle.cd_history.specs.History.{Event, History, ◌▸◌, handles, kept}
 use Rattle.cd_history.specs.Registrations.{closed_by}
 use Rattle.cd_history.specs.Leases.{taken_by}
 use Rattle.cd_daemon.specs.declared.Opening.{Opening}
-use Rattle.cd_daemon.specs.Answers.{register_answer, close_answer, retire_answer, accept_answer, handle_answer, query_answer, ready, next_call}
+use Rattle.cd_daemon.specs.Answers.{register_answer, close_answer, retire_answer, accept_answer, handle_answer, query_answer, ready, next_call, is_idle}
 
--- The entry may follow P. Notifications, ticks, flushes, readings and looks aren't made yet.
-abbrev pub Allowed : Opening → History → Entry → Type 0
+-- The entry may follow P. Notifications, ticks, flushes and readings aren't made yet.
+abbrev pub Allowed : Opening → History → Event → Type 0
 Allowed K P (entry.Register a name joining reply) = reply ≡ register_answer P name
 Allowed K P (entry.Close a name reply) = reply ≡ close_answer P name
-Allowed K P (entry.Retire a r reply) = (reply ≡ retire_answer P r) × IfSome (closed_by r P) (λ b. b ≡ a)
+Allowed K P (entry.Retire a r reply) = (reply ≡ retire_answer K P r) × IfSome (closed_by r P) (λ b. b ≡ a)
 Allowed K P (entry.Accept a lists words now reply) =
-    (reply ≡ accept_answer P lists) × IsTrue (list_all (fits K.types) lists) × (length words ≡ length lists)
-Allowed K P (entry.Handle a now reply) = (reply ≡ handle_answer K P) × (handles P < length (kept P))
+    (reply ≡ accept_answer K P lists words) × IsTrue (list_all (fits K.types) lists) × (length words ≡ length lists)
+Allowed K P (entry.Handle a now reply) = (reply ≡ handle_answer K P now) × (handles P < length (kept P))
 Allowed K P (entry.Query a name reply) = reply ≡ query_answer K P name
-Allowed K P (entry.Take a r call) = (ready P ≡ Some r) × (next_call P r ≡ Some call)
+Allowed K P (entry.Take a r call) = (ready K P ≡ Some r) × (next_call K P r ≡ Some call)
 Allowed K P (entry.Done a r answer) = taken_by r P ≡ Some a
 Allowed K P (entry.Stop a why) = Unit {0}
+Allowed K P (entry.Look a idle) = idle ≡ true → IsTrue (is_idle K P)
 Allowed K P _ = ⊥
 
 -- each entry may follow those before it

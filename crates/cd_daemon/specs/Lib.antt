@@ -1,4 +1,5 @@
+pub mod Handling
 pub mod Calls
-pub mod Cached
 pub mod Answers
 pub mod Legal
+pub mod Settled

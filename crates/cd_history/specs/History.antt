@@ -7,15 +7,19 @@ use Rattle.cd_value.specs.declared.data.Offered.TheVariants.{Kept, Dropped}
 use Rattle.cd_history.specs.declared.entry.Entry.{Entry}
 use Rattle.cd_history.specs.declared.entry.Entry.TheVariants as entry
 
+-- an event of the daemon
+abbrev pub Event : Type 0
+Event = Entry
+
 abbrev pub History : Type 0
-History = List Entry
+History = List Event
 
 -- P ▸ e is P followed by e
 infixl 30 ◌▸◌
 pattern abbrev pub ◌▸◌ : {A : Type 0} → List A → A → List A
 P ▸ e = e ∷ P
 
-abbrev pub actor_of : Entry → ℕ
+abbrev pub actor_of : Event → ℕ
 actor_of (entry.Register a name joining reply) = a
 actor_of (entry.Close a name reply) = a
 actor_of (entry.Retire a reg reply) = a

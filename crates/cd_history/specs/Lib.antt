@@ -1,3 +1,4 @@
 pub mod History
+pub mod Order
 pub mod Registrations
 pub mod Leases

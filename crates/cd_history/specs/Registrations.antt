@@ -3,7 +3,7 @@ use Rattle.std.specs.Prelude.{ℕ, ◌==◌, Bool, true, false, ◌||◌, ◌&&�
 use Rattle.std.specs.Str.{bytes_eq}
 use Rattle.std.specs.List.{filter, find}
 use Rattle.std.specs.Option.{option_map}
-use Rattle.cd_history.specs.declared.entry.Entry.{Entry}
+use Rattle.cd_registry.specs.declared.kinds.Kinds.{Kinds}
 use Rattle.cd_history.specs.declared.entry.Entry.TheVariants as entry
 use Rattle.cd_history.specs.declared.entry.Joining.{Joining}
 use Rattle.cd_history.specs.declared.entry.Joining.TheVariants.{Plug, Probe}
@@ -40,25 +40,26 @@ is_retired r (P ▸ e) = is_retired r P
 abbrev pub live : History → List Registration
 live P = filter (λ g. not (is_closed g.number P)) (registrations P)
 
--- the kinds of callbacks, as bits
-abbrev pub WRITE : ℕ
-WRITE = 1
-
 -- one that is read has no kinds
 abbrev pub kinds_of : Joining → ℕ
 kinds_of (Plug kinds config told) = kinds.0
 kinds_of (Probe interval now told) = 0
 
-abbrev pub has_kind : ℕ → Registration → Bool
-has_kind kind g = bit_and (kinds_of g.joining) kind == kind
+-- it has all kinds of these
+abbrev pub has_kind : Kinds → Registration → Bool
+has_kind kind g = bit_and (kinds_of g.joining) kind.0 == kind.0
 
 abbrev pub is_plug : Joining → Bool
 is_plug (Plug kinds config told) = true
 is_plug (Probe interval now told) = false
 
+-- of some registrations the numbers of those of a kind, in order
+abbrev pub listeners : Kinds → List Registration → List ℕ
+listeners kind regs = map (λ g. g.number) (filter (has_kind kind) regs)
+
 -- the numbers of the live registrations of a kind, in order
-abbrev pub listening : ℕ → History → List ℕ
-listening kind P = map (λ g. g.number) (filter (has_kind kind) (live P))
+abbrev pub listening : Kinds → History → List ℕ
+listening kind P = listeners kind (live P)
 
 -- the number of the live registration of that name
 abbrev pub live_number : List ℕ → History → Option ℕ

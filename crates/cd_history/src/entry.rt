@@ -1,4 +1,4 @@
-// The entries of the history.
+//! The entries of the history.
 use cd_registry::{Answer, Call, Kinds, PlugTells, ProbeTells, Reading};
 use cd_value::{Fates, FlushRequest, Lists, Names, Notification, Rates, Rows, Sequence, Text};
 

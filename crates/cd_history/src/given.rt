@@ -1,9 +1,9 @@
-// What a run took from the outside.
+//! What a run took from the outside.
 use cd_registry::Answer;
-use cd_value::Sequence;
+use cd_value::{Lists, Sequence};
 
-/// What the clock, the dice or a plug-in gave to a run.
-#[derive(Clone, Copy, Debug, PartialEq, Eq)]
+/// What the clock, the dice, a plug-in or a reader gave to a run.
+#[derive(Drop)]
 pub enum Given {
     /// A moment, in units of 2^-30 s.
     Now(u64),
@@ -11,6 +11,8 @@ pub enum Given {
     Word(u64),
     /// What a plug-in answered to a call.
     Answered(Answer),
+    /// What a reader gave: its lists, or none where the reading failed.
+    Read(Option<Lists>),
 }
 
 /// What was given, in order.

@@ -19,8 +19,8 @@ use Rattle.cd_daemon.specs.Calls.{calls_to}
 use Rattle.cd_daemon.specs.Answers.{is_reserved, register_answer, close_answer}
 use Rattle.cd_daemon.specs.Legal.{IsLegal}
 use Rattle.cd_transcript.specs.Transcripts.{Said, of_lines}
-use Rattle.cd_transcript.specs.LineRuns.{OnShelf, registered, returned, nothing, Serves, closed, IsLineRun}
-use Rattle.cd_transcript.proofs.Written.{closed-of_lines}
+use Rattle.cd_transcript.specs.LineRuns.{OnShelf, Opens, none, plug_in, registers, returned, nothing, ServesLines, closed, IsLineRun}
+use Rattle.cd_transcript.proofs.Events.{closed-of_lines}
 use Rattle.cd_transcript.proofs.Determined.{one_history}
 use Rattle.cd_serve.specs.Standing.{Standing, registration_of, AreOf, Writes, RunsOn}
 use Rattle.cd_serve.specs.Runs.{IsRun}
@@ -28,6 +28,15 @@ use Rattle.cd_serve.proofs.Steps.{works_on, same_number, live-is, all_handled}
 use Rattle.cd_serve.proofs.Shelves.{returned-same, bytes_same}
 
 -- ---- the beginning
+
+-- the history in which each plug-in of a shelf was registered after P
+abbrev pub registered : List OnShelf → History → History
+registered [] P = P
+registered (plug ∷ plugs) P = registered plugs (P ▸ registers P plug)
+
+pub opens_registered : (shelf : List OnShelf) (P : History) → Opens shelf P [] (registered shelf P)
+opens_registered [] P = none
+opens_registered (plug ∷ plugs) P = plug_in (opens_registered plugs (P ▸ registers P plug))
 
 begun : (K : Opening) → Standing K false [] [] [] []
 begun K = record {
@@ -106,13 +115,13 @@ module _ (K : Opening) (plug : OnShelf) where
       is : register_answer [] plug.name ≡ Ok 0
       is = rw free refl
 
-      told_alike : plug ∷ [] ≡ returned (with_reply (Ok 0)) (plug ∷ [])
+      told_alike : plug ∷ [] ≡ returned K (with_reply (Ok 0)) (plug ∷ [])
       told_alike = rw (bytes_same plug.name) refl
 
 -- ---- the end
 
 stopped_standing : {K : Opening} {regs : List Registration} {cache : List CacheEntry} {P : History} → Standing K false regs [] cache P → Standing K true regs [] cache (P ▸ entry.Stop 0 why.ControlEnd)
-stopped_standing {P = P} s = record {
+stopped_standing {K = K} {P = P} s = record {
   legal = (s.legal, tt);
   is_so = refl;
   registers = s.registers;
@@ -122,8 +131,8 @@ stopped_standing {P = P} s = record {
   earlier = s.earlier;
   queued = s.queued;
   counted = s.counted;
-  taken = λ r. s.taken r ∙ ap length (sym (append-nil (calls_to r P)));
-  answered = λ r. s.answered r ∙ ap length (sym (append-nil (calls_to r P)));
+  taken = λ r. s.taken r ∙ ap length (sym (append-nil (calls_to K r P)));
+  answered = λ r. s.answered r ∙ ap length (sym (append-nil (calls_to K r P)));
   caches = s.caches;
 }
 
@@ -139,66 +148,69 @@ module _ {K : Opening} {cache : List CacheEntry} (g : Registration) (Q : History
   closed_by_us : IfSome (closed_by g.number after_close) (λ b. b ≡ 0)
   closed_by_us = rw (closes-one, same_number g.number) refl
 
-  handed_out_legal : IsLegal K (closed (g ∷ []) Q)
+  handed_out_legal : IsLegal K (closed K (g ∷ []) Q)
   handed_out_legal = ((s.legal, refl), (refl, closed_by_us))
 
 -- the registrations of a shelf of at most one plug-in are closed and handed out as a one-thread daemon does it
-few_handed_out : {K : Opening} {cache : List CacheEntry} (opened : List OnShelf) (regs : List Registration) (Q : History) → AreOf opened regs → Standing K true regs [] cache Q → IsLegal K (closed regs Q)
-few_handed_out {K = K} {cache = cache} [] regs Q of_shelf s = let P : List Registration → Type 0 = λ gs. IsLegal K (closed gs Q) in subst P (sym of_shelf) s.legal
+few_handed_out : {K : Opening} {cache : List CacheEntry} (opened : List OnShelf) (regs : List Registration) (Q : History) → AreOf opened regs → Standing K true regs [] cache Q → IsLegal K (closed K regs Q)
+few_handed_out {K = K} {cache = cache} [] regs Q of_shelf s = let P : List Registration → Type 0 = λ gs. IsLegal K (closed K gs Q) in subst P (sym of_shelf) s.legal
 few_handed_out {K = K} {cache = cache} (plug ∷ []) regs Q of_shelf s =
-    let P : List Registration → Type 0 = λ gs. IsLegal K (closed gs Q) in
+    let P : List Registration → Type 0 = λ gs. IsLegal K (closed K gs Q) in
     elim of_shelf [
       | inl is ↦ subst P (sym is) s.legal
       | inr is ↦ subst P (sym is) (handed_out_legal (registration_of plug) Q (let S : List Registration → Type 0 = λ gs. Standing K true gs [] cache Q in subst S is s))
     ]
 few_handed_out (plug ∷ (next ∷ plugs)) regs Q of_shelf s = absurd of_shelf
 
-closed-handles : (gs : List Registration) (P : History) → handles (closed gs P) ≡ handles P
-closed-handles [] P = refl
-closed-handles (g ∷ gs) P = closed-handles gs _
+closed-handles : (K : Opening) (gs : List Registration) (P : History) → handles (closed K gs P) ≡ handles P
+closed-handles K [] P = refl
+closed-handles K (g ∷ gs) P = closed-handles K gs _
 
-closed-kept : (gs : List Registration) (P : History) → kept (closed gs P) ≡ kept P
-closed-kept [] P = refl
-closed-kept (g ∷ gs) P = closed-kept gs _
+closed-kept : (K : Opening) (gs : List Registration) (P : History) → kept (closed K gs P) ≡ kept P
+closed-kept K [] P = refl
+closed-kept K (g ∷ gs) P = closed-kept K gs _
 
-closed-registrations : (gs : List Registration) (P : History) → registrations (closed gs P) ≡ registrations P
-closed-registrations [] P = refl
-closed-registrations (g ∷ gs) P = closed-registrations gs _
+closed-registrations : (K : Opening) (gs : List Registration) (P : History) → registrations (closed K gs P) ≡ registrations P
+closed-registrations K [] P = refl
+closed-registrations K (g ∷ gs) P = closed-registrations K gs _
 
-closed-calls_to : (gs : List Registration) (P : History) (r : ℕ) → calls_to r (closed gs P) ≡ calls_to r P
-closed-calls_to [] P r = refl
-closed-calls_to (g ∷ gs) P r = closed-calls_to gs _ r ∙ append-nil _ ∙ append-nil (calls_to r P)
+closed-calls_to : (K : Opening) (gs : List Registration) (P : History) (r : ℕ) → calls_to K r (closed K gs P) ≡ calls_to K r P
+closed-calls_to K [] P r = refl
+closed-calls_to K (g ∷ gs) P r = closed-calls_to K gs _ r ∙ append-nil _ ∙ append-nil (calls_to K r P)
 
-closed-answers_to : (gs : List Registration) (P : History) (r : ℕ) → answers_to r (closed gs P) ≡ answers_to r P
-closed-answers_to [] P r = refl
-closed-answers_to (g ∷ gs) P r = closed-answers_to gs _ r
+closed-answers_to : (K : Opening) (gs : List Registration) (P : History) (r : ℕ) → answers_to r (closed K gs P) ≡ answers_to r P
+closed-answers_to K [] P r = refl
+closed-answers_to K (g ∷ gs) P r = closed-answers_to K gs _ r
 
 -- the history of a run that has served these lines
 abbrev pub after_stop : History → History
 after_stop P = P ▸ entry.Stop 0 why.ControlEnd
 
-abbrev pub at_end : History → History
-at_end P = closed (live (after_stop P)) (after_stop P)
+abbrev pub at_end : Opening → History → History
+at_end K P = closed K (live (after_stop P)) (after_stop P)
 
-pub run_ends : {Line : Type 0} (says : Line → ℕ → Said) {K : Opening} {opened shelf : List OnShelf} {writer : Bool} {cache : List CacheEntry} {lines : List Line} {given : List Given} (P : History)
-    → RunsOn K opened shelf writer [] cache P → Serves K says lines (registered opened []) given P
-    → IsRun K says opened shelf lines given (at_end P)
-run_ends says {K = K} {opened = opened} {cache = cache} {lines = lines} {given = given} P s serves = record {
+pub run_ends : {Line : Type 0} (says : Line → ℕ → Said) {K : Opening} {opened shelf : List OnShelf} {writer : Bool} {cache : List CacheEntry} {lines : List Line} {given : List Given} (O P : History)
+    → RunsOn K opened shelf writer [] cache P → Opens opened [] [] O → ServesLines K says lines O given P
+    → IsRun K says opened shelf lines given (at_end K P)
+run_ends says {K = K} {opened = opened} {cache = cache} {lines = lines} {given = given} O P s opens serves = record {
   legal = few_handed_out opened (live (after_stop P)) (after_stop P) (let A : List Registration → Type 0 = AreOf opened in subst A (sym regs) s.of_shelf)
       (let S : List Registration → Type 0 = λ gs. Standing K true gs [] cache (after_stop P) in subst S (sym regs) (stopped_standing s.standing));
   made = is_made;
   only = λ other r. one_history K says r is_made;
-  handled = closed-handles (live (after_stop P)) (after_stop P) ∙ all_handled s.standing ∙ ap length (sym (closed-kept (live (after_stop P)) (after_stop P)));
-  told = s.back ∙ sym (returned-same P (at_end P) (closed-registrations (live (after_stop P)) (after_stop P))
-      (λ r. closed-calls_to (live (after_stop P)) (after_stop P) r ∙ append-nil (calls_to r P)) (closed-answers_to (live (after_stop P)) (after_stop P)) opened);
+  handled = closed-handles K (live (after_stop P)) (after_stop P) ∙ all_handled s.standing ∙ ap length (sym (closed-kept K (live (after_stop P)) (after_stop P)));
+  told = s.back ∙ sym (returned-same K P (at_end K P) (closed-registrations K (live (after_stop P)) (after_stop P))
+      (λ r. closed-calls_to K (live (after_stop P)) (after_stop P) r ∙ append-nil (calls_to K r P)) (closed-answers_to K (live (after_stop P)) (after_stop P)) opened);
 }
   where
-    is_made : IsLineRun K says opened lines given (at_end P)
+    is_made : IsLineRun K says opened lines given (at_end K P)
     is_made = record {
+      opened = O;
       served = P;
       stopped = after_stop P;
+      given_first = [];
       given_lines = given;
       given_last = [];
+      opens = opens;
       serves = serves;
       stops = works_on (stopped_standing s.standing) nothing;
       hands_out = refl;
@@ -208,5 +220,5 @@ run_ends says {K = K} {opened = opened} {cache = cache} {lines = lines} {given =
     regs : live (after_stop P) ≡ s.regs
     regs = live-is (stopped_standing s.standing)
 
-pub at_end-of_lines : (P : History) → of_lines (at_end P) ≡ of_lines P
-at_end-of_lines P = closed-of_lines (live (after_stop P)) (after_stop P)
+pub at_end-of_lines : (K : Opening) (P : History) → of_lines (at_end K P) ≡ of_lines P
+at_end-of_lines K P = closed-of_lines K (live (after_stop P)) (after_stop P)

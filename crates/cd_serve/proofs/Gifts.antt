@@ -5,7 +5,7 @@ use Rattle.std.specs.Option.{option_map}
 use Rattle.cd_registry.specs.declared.calls.Answer.{Answer}
 use Rattle.cd_io.specs.Told.{clock_after, dice_after}
 use Rattle.cd_history.specs.declared.given.Given.{Given}
-use Rattle.cd_history.specs.declared.given.Given.TheVariants.{Now, Word, Answered}
+use Rattle.cd_history.specs.declared.given.Given.TheVariants.{Now, Word, Answered, Read}
 use Rattle.cd_serve.specs.Tells.{moments, words, Gave, Pairs, GaveAll}
 
 moments-append : (xs ys : List Given) → moments (xs ++ ys) ≡ moments xs ++ moments ys
@@ -13,12 +13,14 @@ moments-append [] ys = refl
 moments-append (Now now ∷ xs) ys = ap (λ (ns : List ℕ). now ∷ ns) (moments-append xs ys)
 moments-append (Word word ∷ xs) ys = moments-append xs ys
 moments-append (Answered answer ∷ xs) ys = moments-append xs ys
+moments-append (Read lists ∷ xs) ys = moments-append xs ys
 
 words-append : (xs ys : List Given) → words (xs ++ ys) ≡ words xs ++ words ys
 words-append [] ys = refl
 words-append (Now now ∷ xs) ys = words-append xs ys
 words-append (Word word ∷ xs) ys = ap (λ (ns : List ℕ). word ∷ ns) (words-append xs ys)
 words-append (Answered answer ∷ xs) ys = words-append xs ys
+words-append (Read lists ∷ xs) ys = words-append xs ys
 
 moments-words : (rolled : List ℕ) → moments (map Word rolled) ≡ []
 moments-words [] = refl

@@ -5,13 +5,14 @@ use Rattle.cd_types.specs.Types.{builtin}
 use Rattle.cd_io.specs.Causes.{Rose}
 use Rattle.cd_value.specs.declared.data.DataSet.{DataSet}
 use Rattle.cd_sock.specs.Lines.{Cut}
-use Rattle.cd_history.specs.History.{History}
-use Rattle.cd_history.specs.Registrations.{has_kind, WRITE}
+use Rattle.cd_history.specs.History.{Event, History}
+use Rattle.cd_registry.specs.declared.kinds.TheConstants.Kinds.{WRITE}
+use Rattle.cd_history.specs.Registrations.{has_kind}
 use Rattle.cd_daemon.specs.declared.Opening.{Opening}
 use Rattle.cd_daemon.specs.Answers.{is_reserved}
-use Rattle.cd_transcript.specs.Transcripts.{of_lines, transcript}
-use Rattle.cd_transcript.specs.LineRuns.{OnShelf, registered, none}
-use Rattle.cd_transcript.proofs.Written.{nothing_written, registered-of_lines, transcript-is}
+use Rattle.cd_transcript.specs.Transcripts.{of_lines, IsTranscript, nothing}
+use Rattle.cd_transcript.specs.LineRuns.{OnShelf, none}
+use Rattle.cd_transcript.proofs.Events.{opens-of_lines}
 use Rattle.cd_serve.specs.declared.end.End.{End}
 use Rattle.cd_serve.specs.declared.end.End.TheVariants as ends
 use Rattle.cd_serve.specs.Standing.{RunsOn, Writes, registration_of}
@@ -20,11 +21,11 @@ use Rattle.cd_registry.specs.declared.plug.PlugTells.{PlugTells}
 use Rattle.cd_serve.specs.declared.shelf.ShelvedOf.{ShelvedOf}
 use Rattle.cd_serve.specs.Shelf.{on_shelf, shown}
 use Rattle.cd_serve.specs.Tells.{Pairs}
-use Rattle.cd_serve.specs.Progress.{Seen, HasServed, says}
+use Rattle.cd_serve.specs.Progress.{Seen, HasServed, says, opening_of}
 use Rattle.cd_serve.specs.Sessions.{LIMIT, LinkTells, Spoke, Ended}
-use Rattle.cd_serve.specs.Runs.{IsRun, IsWithin, Promises, opening, line_says, writes_first, written_of, opened}
+use Rattle.cd_serve.specs.Runs.{IsRun, IsWithin, Promises, opening, line_says, writes_first, HasRun, opened}
 use Rattle.cd_serve.proofs.Gifts.{gave_nothing}
-use Rattle.cd_serve.proofs.Ends.{run_begins, run_begins_empty, run_begins_refused, run_ends, at_end, at_end-of_lines}
+use Rattle.cd_serve.proofs.Ends.{registered, opens_registered, run_begins, run_begins_empty, run_begins_refused, run_ends, at_end, at_end-of_lines}
 
 -- ---- the beginning
 
@@ -48,63 +49,71 @@ begins_run K (plug ∷ (next ∷ plugs)) few = absurd (omega (arith, few))
 pub has_begun : (types : List DataSet) (shelf : List OnShelf) (pairs : Pairs) → length shelf ≤ 1
     → let begun : Seen = record { types = types; shelf = shelf; writer = writes_first shelf; cache = []; given = []; pairs = pairs } in HasServed begun [] [] begun
 has_begun types shelf pairs few = record {
+  opened = registered shelf [];
   past = registered shelf [];
   types = refl;
   runs = begins_run (record { types = types }) shelf few;
+  opens = opens_registered shelf [];
   serves = none;
-  written = nothing_written (says types) (registered shelf []) (registered-of_lines shelf []);
+  written = let T : List Event → Type 0 = λ events. IsTranscript (says types) [] events [] in subst T (sym (opens-of_lines (opens_registered shelf []))) nothing;
   gave = gave_nothing pairs;
 }
 
 -- ---- the end
 
 module _ (begun : Seen) (built : begun.types ≡ builtin) (lines : List Cut) (text : List ℕ) (seen : Seen) (h : HasServed begun lines text seen) where
-  abbrev pub whole_history : History
-  whole_history = at_end h.past
+  -- the run, with the types of its beginning
+  record Whole (types : List DataSet) : Type 0 where
+    history : History
+    run : IsRun (record { types = types }) (says types) begun.shelf seen.shelf lines seen.given history
+    transcript : IsTranscript (says types) lines (of_lines history) text
 
-  pub is_run : IsRun opening line_says begun.shelf seen.shelf lines seen.given whole_history
+  whole : Whole begun.types
+  whole = record {
+    history = at_end (opening_of begun) h.past;
+    run = run_ends (says begun.types) h.opened h.past h.runs h.opens h.serves;
+    transcript = let T : List Event → Type 0 = λ events. IsTranscript (says begun.types) lines events text in
+        subst T (sym (at_end-of_lines (opening_of begun) h.past)) h.written;
+  }
+
+  -- what was served is the run that is promised
+  pub has_run : HasRun begun.shelf seen.shelf seen.given begun.pairs lines text
   unfolding opening
-  is_run = let R : List DataSet → Type 0 = λ types. IsRun (record { types = types }) (says types) begun.shelf seen.shelf lines seen.given whole_history in
-      subst R built (run_ends (says begun.types) h.past h.runs h.serves)
-
-  pub is_written : text ≡ written_of lines whole_history
-  is_written =
-      sym (transcript-is (says begun.types) lines h.past text h.written)
-      ∙ ap (λ (types : List DataSet). transcript (says types) lines (of_lines h.past)) built
-      ∙ ap (transcript line_says lines) (sym (at_end-of_lines h.past))
+  has_run = let w : Whole builtin = subst Whole built whole in record {
+    history = w.history;
+    run = w.run;
+    transcript = w.transcript;
+    last = seen.pairs;
+    gave = h.gave;
+  }
 
 module _ (begun seen : Seen) (before after : LinkTells) (built : begun.types ≡ builtin) where
   pub promised : (end : End) → Ended end begun before after seen → Promises begun.shelf seen.shelf seen.given begun.pairs before after end
   promised ends.Done e = record {
     heard = e.heard;
-    history = whole_history begun built _ _ seen e.served;
+    text = e.text;
     short = e.short;
-    run = is_run begun built _ _ seen e.served;
-    spoke = let S : List ℕ → Type 0 = λ text. Spoke e.heard text before after in subst S (is_written begun built _ _ seen e.served) e.spoke;
+    served = has_run begun built _ _ seen e.served;
+    spoke = e.spoke;
     ended = e.ended;
-    gave = (seen.pairs, e.served.gave);
   }
   promised ends.InputTooLong e = record {
     heard = e.heard;
-    history = whole_history begun built _ _ seen e.served;
+    text = e.text;
     long = e.long;
-    run = is_run begun built _ _ seen e.served;
-    spoke = let S : List ℕ → Type 0 = λ text. Spoke e.heard text before after in subst S (is_written begun built _ _ seen e.served) e.spoke;
-    gave = (seen.pairs, e.served.gave);
+    served = has_run begun built _ _ seen e.served;
+    spoke = e.spoke;
   }
   promised ends.LinkFault e = record {
     heard = e.heard;
     lines = e.lines;
     unserved = e.unserved;
     are = e.are;
-    history = whole_history begun built _ _ seen e.served;
-    run = is_run begun built _ _ seen e.served;
     said = e.text;
     unsaid = e.unwritten;
-    parts = is_written begun built _ _ seen e.served;
+    served = has_run begun built _ _ seen e.served;
     spoke = e.spoke;
     rose = e.rose;
-    gave = (seen.pairs, e.served.gave);
   }
   promised ends.Usage e = absurd e
   promised ends.Memory e = tt

@@ -28,24 +28,32 @@ use Rattle.cd_history.specs.declared.entry.Stopping.{Stopping}
 use Rattle.cd_history.specs.declared.given.Given.{Given}
 use Rattle.cd_history.specs.declared.given.Given.TheVariants.{Now, Word}
 use Rattle.cd_history.specs.History.{History, ◌▸◌}
+use Rattle.cd_daemon.specs.declared.Opening.{Opening}
 use Rattle.cd_daemon.specs.Answers.{accept_answer, query_answer, found_in}
-use Rattle.cd_transcript.specs.Transcripts.{Said, Written, reply_of, reply_to}
-use Rattle.cd_transcript.specs.LineRuns.{registered, Serves as ServesLines, nothing, blank, refused, accepted, asked, listed, one_more}
-use Rattle.cd_transcript.proofs.Written.{written_more, blank_writes, refused_writes, accepted_writes, asked_writes, listed_writes}
-use Rattle.cd_serve.specs.Progress.{INTERVAL, says, Seen, opening_of, HasServed, IsWorking, with_moment, Puts, Obeys, Serves}
+use Rattle.cd_transcript.specs.Transcripts.{Said, IsTranscript, of_lines, found_reply, offered_reply}
+use Rattle.cd_transcript.specs.LineRuns.{ServesLines, Works, IsAsked, nothing, blank, refused, put, got, listed, one_more}
+use Rattle.cd_transcript.proofs.Events.{written_more, blank_writes, refused_writes, put_writes, got_writes, listed_writes}
+use Rattle.cd_daemon.specs.declared.TheConstants.{INTERVAL}
+use Rattle.cd_serve.specs.Progress.{says, Seen, opening_of, HasServed, IsWorking, with_moment, Puts, Obeys, Serves}
 use Rattle.cd_serve.proofs.Gifts.{gave_moment, gave_words}
 use Rattle.cd_serve.proofs.Steps.{accepted_ok, works_on}
 use Rattle.cd_serve.proofs.Shelves.{run_accepts, run_asks}
+
+-- no work is left
+still : {K : Opening} (P : History) → Works K IsAsked P [] P
+still P = nothing
 
 module _ (begun : Seen) (lines : List Cut) (text : List ℕ) (old : Seen) (h : HasServed begun lines text old) (line : Cut) where
   -- a blank line changes nothing
   pub served_blank : says begun.types line 0 ≡ Ok command.Blank → HasServed begun (lines ++ line ∷ []) (text ++ []) old
   served_blank is = record {
+    opened = h.opened;
     past = h.past;
     types = h.types;
+    opens = h.opens;
     runs = h.runs;
-    serves = subst (λ (given : List Given). ServesLines (opening_of begun) (says begun.types) (lines ++ line ∷ []) (registered begun.shelf []) given h.past) (append-nil old.given) (one_more h.serves (blank is));
-    written = written_more _ lines line h.past h.past text [] h.written (blank_writes _ line h.past is);
+    serves = subst (λ (given : List Given). ServesLines (opening_of begun) (says begun.types) (lines ++ line ∷ []) h.opened given h.past) (append-nil old.given) (one_more h.serves (blank is));
+    written = written_more _ h.written (blank_writes _ line h.past is);
     gave = h.gave;
   }
 
@@ -54,11 +62,13 @@ module _ (begun : Seen) (lines : List Cut) (text : List ℕ) (old : Seen) (h : H
     pub served_refused : (fault : LineFault) → says begun.types line 0 ≡ Err fault
         → HasServed begun (lines ++ line ∷ []) (text ++ reply_text (reply.Fault fault)) (with_moment now old)
     served_refused fault is = record {
+      opened = h.opened;
       past = h.past;
       types = h.types;
+      opens = h.opens;
       runs = h.runs;
-      serves = one_more h.serves (refused is);
-      written = written_more _ lines line h.past h.past text (reply_text (reply.Fault fault)) h.written (refused_writes _ line h.past fault is);
+      serves = one_more h.serves (refused is (works_on h.runs.standing nothing));
+      written = written_more _ h.written (refused_writes _ {K = opening_of begun} line h.past h.past fault is (still h.past));
       gave = gave_moment begun.pairs old.pairs old.given now h.gave at;
     }
 
@@ -67,14 +77,16 @@ module _ (begun : Seen) (lines : List Cut) (text : List ℕ) (old : Seen) (h : H
 
     -- a name is asked for
     pub served_asked : (id : Fields) → says begun.types line 0 ≡ Ok (command.GetVal id)
-        → HasServed begun (lines ++ line ∷ []) (text ++ reply_text (reply_of (found_in (opening_of old) (cached (name_of id) old.cache)))) (with_moment now old)
+        → HasServed begun (lines ++ line ∷ []) (text ++ reply_text (found_reply (found_in (opening_of old) (cached (name_of id) old.cache)))) (with_moment now old)
     served_asked id is = record {
+      opened = h.opened;
       past = h.past ▸ entry.Query 0 (Some (name_of id)) (query_answer (opening_of begun) h.past (Some (name_of id)));
       types = h.types;
+      opens = h.opens;
       runs = run_asks (Some (name_of id)) h.runs;
-      serves = one_more h.serves (asked is);
-      written = let W : Found → Type 0 = λ found. Written (says begun.types) (lines ++ line ∷ []) (h.past ▸ entry.Query 0 (Some (name_of id)) (query_answer (opening_of begun) h.past (Some (name_of id)))) (text ++ reply_text (reply_of found)) in
-          subst W (same_cache (name_of id)) (written_more _ lines line h.past _ text _ h.written (asked_writes _ line h.past id (Some (name_of id)) _ is));
+      serves = one_more h.serves (got is (works_on (run_asks (Some (name_of id)) h.runs).standing nothing));
+      written = let W : Found → Type 0 = λ found. IsTranscript (says begun.types) (lines ++ line ∷ []) (of_lines (h.past ▸ entry.Query 0 (Some (name_of id)) (query_answer (opening_of begun) h.past (Some (name_of id))))) (text ++ reply_text (found_reply found)) in
+          subst W (same_cache (name_of id)) (written_more _ h.written (got_writes _ {K = opening_of begun} line h.past _ 0 id _ is (still _)));
       gave = gave_moment begun.pairs old.pairs old.given now h.gave at;
     }
 
@@ -82,12 +94,14 @@ module _ (begun : Seen) (lines : List Cut) (text : List ℕ) (old : Seen) (h : H
     pub served_listed : says begun.types line 0 ≡ Ok command.ListVal
         → HasServed begun (lines ++ line ∷ []) (text ++ reply_text (reply.Listed (rows_of old.cache))) (with_moment now old)
     served_listed is = record {
+      opened = h.opened;
       past = h.past ▸ entry.Query 0 None (query_answer (opening_of begun) h.past None);
       types = h.types;
+      opens = h.opens;
       runs = run_asks None h.runs;
-      serves = one_more h.serves (listed is);
-      written = let W : List CacheEntry → Type 0 = λ cache. Written (says begun.types) (lines ++ line ∷ []) (h.past ▸ entry.Query 0 None (query_answer (opening_of begun) h.past None)) (text ++ reply_text (reply.Listed (rows_of cache))) in
-          subst W h.runs.standing.caches (written_more _ lines line h.past _ text _ h.written (listed_writes _ line h.past None _ is));
+      serves = one_more h.serves (listed is (works_on (run_asks None h.runs).standing nothing));
+      written = let W : List CacheEntry → Type 0 = λ cache. IsTranscript (says begun.types) (lines ++ line ∷ []) (of_lines (h.past ▸ entry.Query 0 None (query_answer (opening_of begun) h.past None))) (text ++ reply_text (reply.Listed (rows_of cache))) in
+          subst W h.runs.standing.caches (written_more _ h.written (listed_writes _ {K = opening_of begun} line h.past _ 0 _ is (still _)));
       gave = gave_moment begun.pairs old.pairs old.given now h.gave at;
     }
 
@@ -97,7 +111,7 @@ module _ (begun : Seen) (lines : List Cut) (text : List ℕ) (old : Seen) (h : H
       words = puts.rolled.words
 
       abbrev start : History
-      start = h.past ▸ entry.Accept 0 lists words now (accept_answer h.past lists)
+      start = h.past ▸ entry.Accept 0 lists words now (accept_answer (opening_of begun) h.past lists words)
 
       begins : IsWorking begun start puts.mid.given lists puts.mid
       begins = let W : Seen → Type 0 = IsWorking begun start puts.mid.given lists in subst W (sym puts.rolled.seen) (record {
@@ -121,13 +135,15 @@ module _ (begun : Seen) (lines : List Cut) (text : List ℕ) (old : Seen) (h : H
       pub served_put : says begun.types line 0 ≡ Ok (command.PutVal at_zero) → says begun.types line now ≡ Ok (command.PutVal lists)
           → HasServed begun (lines ++ line ∷ []) (text ++ reply_text reply.Success) new
       served_put zero is = record {
+        opened = h.opened;
         past = ends.past;
         types = ends.types;
+        opens = h.opens;
         runs = ends.runs;
-        serves = subst (λ (given : List Given). ServesLines (opening_of begun) (says begun.types) (lines ++ line ∷ []) (registered begun.shelf []) given ends.past) (sym given_is)
-            (one_more h.serves (accepted zero is puts.rolled.many (works_on ends.runs.standing ends.works)));
-        written = let W : Result (List Offered) Stopping → Type 0 = λ reply. Written (says begun.types) (lines ++ line ∷ []) ends.past (text ++ reply_to (entry.Accept 0 lists words now reply)) in
-            subst W (accepted_ok lists h.runs.standing) (written_more _ lines line h.past ends.past text _ h.written (accepted_writes _ line h.past ends.past at_zero lists words now (accept_answer h.past lists) ends.given zero ends.works));
+        serves = subst (λ (given : List Given). ServesLines (opening_of begun) (says begun.types) (lines ++ line ∷ []) h.opened given ends.past) (sym given_is)
+            (one_more h.serves (put zero is puts.rolled.many (works_on ends.runs.standing ends.works)));
+        written = let W : Result (List Offered) Stopping → Type 0 = λ answer. IsTranscript (says begun.types) (lines ++ line ∷ []) (of_lines ends.past) (text ++ reply_text (offered_reply answer)) in
+            subst W (accepted_ok lists words h.runs.standing) (written_more _ h.written (put_writes _ line h.past ends.past 0 now lists words (accept_answer (opening_of begun) h.past lists words) is ends.works));
         gave = ends.gave;
       }
 
@@ -145,7 +161,7 @@ obeyed begun lines text old h bytes now at (command.PutVal lists) answer new not
     subst A (sym o.0) (served_put begun lines text old h (Some bytes) now at lists zero.0 new o.1 fit zero.1 is)
 obeyed begun lines text old h bytes now at (command.GetVal id) answer new not is fit o =
     let A : Reply → Type 0 = λ a. HasServed begun (lines ++ Some bytes ∷ []) (text ++ reply_text a) new in
-    let S : Seen → Type 0 = λ s. HasServed begun (lines ++ Some bytes ∷ []) (text ++ reply_text (reply_of (found_in (opening_of old) (cached (name_of id) old.cache)))) s in
+    let S : Seen → Type 0 = λ s. HasServed begun (lines ++ Some bytes ∷ []) (text ++ reply_text (found_reply (found_in (opening_of old) (cached (name_of id) old.cache)))) s in
     subst A (sym o.1) (subst S (sym o.0) (served_asked begun lines text old h (Some bytes) now at id (same_get_val begun.types now INTERVAL 0 INTERVAL bytes id is)))
 obeyed begun lines text old h bytes now at command.ListVal answer new not is fit o =
     let A : Reply → Type 0 = λ a. HasServed begun (lines ++ Some bytes ∷ []) (text ++ reply_text a) new in

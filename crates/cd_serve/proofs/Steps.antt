@@ -14,14 +14,16 @@ use Rattle.cd_history.specs.declared.entry.Entry.TheVariants as entry
 use Rattle.cd_history.specs.declared.given.Given.{Given}
 use Rattle.cd_history.specs.declared.given.Given.TheVariants.{Now, Answered}
 use Rattle.cd_history.specs.History.{History, ◌▸◌, handles, kept, kept_of}
-use Rattle.cd_history.specs.Registrations.{Registration, registrations, live, listening, is_closed, is_retired, is_plug, WRITE}
+use Rattle.cd_registry.specs.declared.kinds.TheConstants.Kinds.{WRITE}
+use Rattle.cd_history.specs.Registrations.{Registration, registrations, live, listening, is_closed, is_retired, is_plug}
 use Rattle.cd_history.specs.Leases.{takes, answers_to, taken_by}
 use Rattle.cd_daemon.specs.declared.Opening.{Opening}
 use Rattle.cd_cache.specs.declared.entry.CacheEntry.{CacheEntry}
-use Rattle.cd_daemon.specs.Cached.{cache_after, stored}
-use Rattle.cd_daemon.specs.Calls.{calls_to, pending, next_list, sent_to, writes_of}
+use Rattle.cd_daemon.specs.Handling.{Handling, Post, to_each, stored, handling, handling_if_any, next_list, next_handling}
+use Rattle.cd_daemon.specs.Calls.{cache_after}
+use Rattle.cd_daemon.specs.Calls.{calls_to, pending, sent_to}
 use Rattle.cd_daemon.specs.Answers.{accept_answer, handle_answer, query_answer, ready, is_ready, next_call, is_idle}
-use Rattle.cd_transcript.specs.LineRuns.{Works, called, handled, WorksUntilIdle}
+use Rattle.cd_transcript.specs.LineRuns.{Works, called, handled, WorksUntilIdle, IsAsked}
 use Rattle.cd_serve.specs.Standing.{Standing, IsWriter}
 
 -- ---- lists
@@ -40,29 +42,29 @@ same_number n = grind arith
 
 -- ---- nobody is ready where no call waits
 
-none_pending : {K : Opening} {stopped : Bool} {regs : List Registration} {queue : List ValueList} {cache : List CacheEntry} {P : History} → Standing K stopped regs queue cache P → (r : ℕ) → pending P r ≡ 0
-none_pending {P = P} s r = omega (arith, s.taken r)
+none_pending : {K : Opening} {stopped : Bool} {regs : List Registration} {queue : List ValueList} {cache : List CacheEntry} {P : History} → Standing K stopped regs queue cache P → (r : ℕ) → pending K P r ≡ 0
+none_pending {K = K} {P = P} s r = omega (arith, s.taken r)
 
-not_ready : {K : Opening} {stopped : Bool} {regs : List Registration} {queue : List ValueList} {cache : List CacheEntry} {P : History} → Standing K stopped regs queue cache P → (g : Registration) → is_ready P g ≡ false
-not_ready {P = P} s g = rw (none_pending s g.number) (last (is_plug g.joining) (not (is_retired g.number P)) _)
+not_ready : {K : Opening} {stopped : Bool} {regs : List Registration} {queue : List ValueList} {cache : List CacheEntry} {P : History} → Standing K stopped regs queue cache P → (g : Registration) → is_ready K P g ≡ false
+not_ready {K = K} {P = P} s g = rw (none_pending s g.number) (last (is_plug g.joining) (not (is_retired g.number P)) _)
   where
     last : (a b c : Bool) → (a && b && c && false) ≡ false
     last a b c = grind arith
 
-pub none_ready : {K : Opening} {stopped : Bool} {regs : List Registration} {queue : List ValueList} {cache : List CacheEntry} {P : History} → Standing K stopped regs queue cache P → ready P ≡ None
-none_ready {P = P} s = found (registrations P)
+pub none_ready : {K : Opening} {stopped : Bool} {regs : List Registration} {queue : List ValueList} {cache : List CacheEntry} {P : History} → Standing K stopped regs queue cache P → ready K P ≡ None
+none_ready {K = K} {P = P} s = found (registrations P)
   where
-    found : (gs : List Registration) → elim (find (is_ready P) gs) as (λ o. Option ℕ) [ None ↦ None | Some g ↦ Some g.number ] ≡ None
+    found : (gs : List Registration) → elim (find (is_ready K P) gs) as (λ o. Option ℕ) [ None ↦ None | Some g ↦ Some g.number ] ≡ None
     found [] = refl
     found (g ∷ gs) = rw (not_ready s g) (found gs)
 
-idle : {K : Opening} {stopped : Bool} {regs : List Registration} {cache : List CacheEntry} {P : History} → Standing K stopped regs [] cache P → IsTrue (is_idle P)
-idle {P = P} s = rw (none_ready s, s.queued, append-nil s.earlier, s.counted) (within (length s.earlier))
+idle : {K : Opening} {stopped : Bool} {regs : List Registration} {cache : List CacheEntry} {P : History} → Standing K stopped regs [] cache P → IsTrue (is_idle K P)
+idle {K = K} {P = P} s = rw (none_ready s, s.queued, append-nil s.earlier, s.counted) (within (length s.earlier))
   where
     within : (n : ℕ) → IsTrue (nat_le n n && true)
     within n = grind arith
 
-pub works_on : {K : Opening} {stopped : Bool} {regs : List Registration} {cache : List CacheEntry} {P Q : History} {given : List Given} → Standing K stopped regs [] cache Q → Works K P given Q → WorksUntilIdle K P given Q
+pub works_on : {K : Opening} {stopped : Bool} {regs : List Registration} {cache : List CacheEntry} {P Q : History} {given : List Given} → Standing K stopped regs [] cache Q → Works K IsAsked P given Q → WorksUntilIdle K IsAsked P given Q
 works_on s w = record { works = w; idle = idle s }
 
 pub all_handled : {K : Opening} {stopped : Bool} {regs : List Registration} {cache : List CacheEntry} {P : History} → Standing K stopped regs [] cache P → handles P ≡ length (kept P)
@@ -75,15 +77,15 @@ quiet xs = append-nil xs
 
 -- ---- lists are accepted
 
-pub accepted_ok : {K : Opening} {regs : List Registration} {cache : List CacheEntry} {P : History} (lists : List ValueList) → Standing K false regs [] cache P → accept_answer P lists ≡ Ok (map (λ list. Kept) lists)
-accepted_ok lists s = rw s.is_so refl
+pub accepted_ok : {K : Opening} {regs : List Registration} {cache : List CacheEntry} {P : History} (lists : List ValueList) (words : List ℕ) → Standing K false regs [] cache P → accept_answer K P lists words ≡ Ok (map (λ list. Kept) lists)
+accepted_ok lists words s = rw s.is_so refl
 
 pub accepts : {K : Opening} {regs : List Registration} {cache : List CacheEntry} {P : History} (lists : List ValueList) (words : List ℕ) (now : ℕ)
     → Standing K false regs [] cache P → IsTrue (list_all (fits K.types) lists) → length words ≡ length lists
-    → Standing K false regs lists cache (P ▸ entry.Accept 0 lists words now (accept_answer P lists))
+    → Standing K false regs lists cache (P ▸ entry.Accept 0 lists words now (accept_answer K P lists words))
 accepts {K = K} {regs = regs} {cache = cache} {P = P} lists words now s fit many =
-    subst (λ (reply : _). Standing K false regs lists cache (P ▸ entry.Accept 0 lists words now reply)) (sym (accepted_ok lists s)) (record {
-      legal = (s.legal, (sym (accepted_ok lists s), fit, many));
+    subst (λ (reply : _). Standing K false regs lists cache (P ▸ entry.Accept 0 lists words now reply)) (sym (accepted_ok lists words s)) (record {
+      legal = (s.legal, (sym (accepted_ok lists words s), fit, many));
       is_so = s.is_so;
       registers = s.registers;
       unclosed = s.unclosed;
@@ -92,8 +94,8 @@ accepts {K = K} {regs = regs} {cache = cache} {P = P} lists words now s fit many
       earlier = s.earlier;
       queued = rw (all_kept lists, s.queued, append-nil s.earlier) refl;
       counted = s.counted;
-      taken = λ r. s.taken r ∙ ap length (sym (quiet (calls_to r P)));
-      answered = λ r. s.answered r ∙ ap length (sym (quiet (calls_to r P)));
+      taken = λ r. s.taken r ∙ ap length (sym (quiet (calls_to K r P)));
+      answered = λ r. s.answered r ∙ ap length (sym (quiet (calls_to K r P)));
       caches = s.caches;
     })
 
@@ -102,11 +104,22 @@ accepts {K = K} {regs = regs} {cache = cache} {P = P} lists words now s fit many
 pub next_is : {K : Opening} {stopped : Bool} {regs : List Registration} {cache : List CacheEntry} {P : History} (v : ValueList) (queue : List ValueList) → Standing K stopped regs (v ∷ queue) cache P → next_list P ≡ Some v
 next_is v queue s = rw (s.queued, s.counted) (seam s.earlier v queue)
 
+-- what the next Handle does
+handles-as : {K : Opening} {stopped : Bool} {regs : List Registration} {cache : List CacheEntry} {P : History} (v : ValueList) (queue : List ValueList) (now : ℕ)
+    → Standing K stopped regs (v ∷ queue) cache P → next_handling K (cache_after K P) P now ≡ handling K cache (live P) v now
+handles-as {K = K} {cache = cache} {P = P} v queue now s =
+    ap (λ (next : Option ValueList). handling_if_any K (cache_after K P) (live P) next now) (next_is v queue s)
+    ∙ ap (λ (c : List CacheEntry). handling K c (live P) v now) s.caches
+
 -- the cache after the next list
 stored_next : {K : Opening} {stopped : Bool} {regs : List Registration} {cache : List CacheEntry} {P : History} (v : ValueList) (queue : List ValueList) (now : ℕ)
-    → Standing K stopped regs (v ∷ queue) cache P → stored K (next_list P) now (cache_after K P) ≡ stored K (Some v) now cache
-stored_next {K = K} {P = P} v queue now s =
-    ap (λ (next : Option ValueList). stored K next now (cache_after K P)) (next_is v queue s) ∙ ap (stored K (Some v) now) s.caches
+    → Standing K stopped regs (v ∷ queue) cache P → (next_handling K (cache_after K P) P now).cache ≡ stored K v now cache
+stored_next v queue now s = ap (λ (h : Handling). h.cache) (handles-as v queue now s)
+
+-- the calls that it makes
+posts_next : {K : Opening} {stopped : Bool} {regs : List Registration} {cache : List CacheEntry} {P : History} (v : ValueList) (queue : List ValueList) (now : ℕ)
+    → Standing K stopped regs (v ∷ queue) cache P → (next_handling K (cache_after K P) P now).posts ≡ to_each (listening WRITE P) (calls.Write v)
+posts_next v queue now s = ap (λ (h : Handling). h.posts) (handles-as v queue now s)
 
 pub one_queued : {K : Opening} {stopped : Bool} {regs : List Registration} {cache : List CacheEntry} {P : History} (v : ValueList) (queue : List ValueList) → Standing K stopped regs (v ∷ queue) cache P → handles P < length (kept P)
 one_queued v queue s = rw (s.queued, s.counted) (omega (arith, length-append s.earlier (v ∷ queue)))
@@ -115,16 +128,13 @@ one_more : (xs : List ValueList) (v : ValueList) → length xs + 1 ≡ length (x
 one_more xs v = omega (arith, length-append xs (v ∷ []))
 
 -- where nobody is written to no call is made
-none_sent : (r : ℕ) (next : Option ValueList) → sent_to r (writes_of next []) ≡ []
-none_sent r None = refl
-none_sent r (Some list) = refl
-
-pub calls_to-unwritten : (K : Opening) (P : History) (now : ℕ) → listening WRITE P ≡ [] → (r : ℕ) → calls_to r (P ▸ entry.Handle 0 now (handle_answer K P)) ≡ calls_to r P
-calls_to-unwritten K P now nobody r = rw (nobody, none_sent r (next_list P), quiet (calls_to r P)) refl
+pub calls_to-unwritten : {K : Opening} {stopped : Bool} {regs : List Registration} {cache : List CacheEntry} {P : History} (v : ValueList) (queue : List ValueList) (now : ℕ)
+    → Standing K stopped regs (v ∷ queue) cache P → listening WRITE P ≡ [] → (r : ℕ) → calls_to K r (P ▸ entry.Handle 0 now (handle_answer K P now)) ≡ calls_to K r P
+calls_to-unwritten {K = K} {P = P} v queue now s nobody r = rw (posts_next v queue now s, nobody) (quiet (calls_to K r P))
 
 pub handles_unwritten : {K : Opening} {stopped : Bool} {regs : List Registration} {cache : List CacheEntry} {P : History} (v : ValueList) (queue : List ValueList) (now : ℕ)
     → Standing K stopped regs (v ∷ queue) cache P → listening WRITE P ≡ []
-    → Standing K stopped regs queue (stored K (Some v) now cache) (P ▸ entry.Handle 0 now (handle_answer K P))
+    → Standing K stopped regs queue (stored K v now cache) (P ▸ entry.Handle 0 now (handle_answer K P now))
 handles_unwritten {K = K} {P = P} v queue now s nobody = record {
   legal = (s.legal, (refl, one_queued v queue s));
   is_so = s.is_so;
@@ -135,8 +145,8 @@ handles_unwritten {K = K} {P = P} v queue now s nobody = record {
   earlier = s.earlier ++ v ∷ [];
   queued = s.queued ∙ sym (append_assoc s.earlier (v ∷ []) queue);
   counted = ap (λ (n : ℕ). n + 1) s.counted ∙ one_more s.earlier v;
-  taken = λ r. s.taken r ∙ ap length (sym (calls_to-unwritten K P now nobody r));
-  answered = λ r. s.answered r ∙ ap length (sym (calls_to-unwritten K P now nobody r));
+  taken = λ r. s.taken r ∙ ap length (sym (calls_to-unwritten v queue now s nobody r));
+  answered = λ r. s.answered r ∙ ap length (sym (calls_to-unwritten v queue now s nobody r));
   caches = stored_next v queue now s;
 }
 
@@ -165,13 +175,13 @@ sent_one n r call = by (nat_eq n r) refl
     by true e = rw e refl
     by false e = rw e refl
 
-ready_first : (Q : History) (g : Registration) → registrations Q ≡ g ∷ [] → is_ready Q g ≡ true → ready Q ≡ Some g.number
-ready_first Q g is able =
-    ap (λ (gs : List Registration). elim (find (is_ready Q) gs) as (λ o. Option ℕ) [ None ↦ None | Some x ↦ Some x.number ]) is ∙ rw able refl
+ready_first : (K : Opening) (Q : History) (g : Registration) → registrations Q ≡ g ∷ [] → is_ready K Q g ≡ true → ready K Q ≡ Some g.number
+ready_first K Q g is able =
+    ap (λ (gs : List Registration). elim (find (is_ready K Q) gs) as (λ o. Option ℕ) [ None ↦ None | Some x ↦ Some x.number ]) is ∙ rw able refl
 
 module _ (K : Opening) (stopped : Bool) (g : Registration) (P : History) (v : ValueList) (queue : List ValueList) (cache : List CacheEntry) (now : ℕ) (answer : Answer) where
   abbrev pub after_handle : History
-  after_handle = P ▸ entry.Handle 0 now (handle_answer K P)
+  after_handle = P ▸ entry.Handle 0 now (handle_answer K P now)
 
   abbrev pub after_take : History
   after_take = after_handle ▸ entry.Take 0 g.number (calls.Write v)
@@ -179,23 +189,23 @@ module _ (K : Opening) (stopped : Bool) (g : Registration) (P : History) (v : Va
   abbrev pub after_done : History
   after_done = after_take ▸ entry.Done 0 g.number answer
 
-  pub calls_to-after_handle : Standing K stopped (g ∷ []) (v ∷ queue) cache P → IsWriter g → (r : ℕ) → calls_to r after_handle ≡ with_write g.number r (calls.Write v) (calls_to r P)
-  calls_to-after_handle s w r = rw (next_is v queue s, listens s w, sent_one g.number r (calls.Write v)) refl
+  pub calls_to-after_handle : Standing K stopped (g ∷ []) (v ∷ queue) cache P → IsWriter g → (r : ℕ) → calls_to K r after_handle ≡ with_write g.number r (calls.Write v) (calls_to K r P)
+  calls_to-after_handle s w r = rw (posts_next v queue now s, listens s w, sent_one g.number r (calls.Write v)) refl
 
-  pub calls_to-after_done : Standing K stopped (g ∷ []) (v ∷ queue) cache P → IsWriter g → (r : ℕ) → calls_to r after_done ≡ with_write g.number r (calls.Write v) (calls_to r P)
+  pub calls_to-after_done : Standing K stopped (g ∷ []) (v ∷ queue) cache P → IsWriter g → (r : ℕ) → calls_to K r after_done ≡ with_write g.number r (calls.Write v) (calls_to K r P)
   calls_to-after_done s w r = quiet _ ∙ quiet _ ∙ calls_to-after_handle s w r
 
-  own_calls : Standing K stopped (g ∷ []) (v ∷ queue) cache P → IsWriter g → calls_to g.number after_handle ≡ calls_to g.number P ++ calls.Write v ∷ []
+  own_calls : Standing K stopped (g ∷ []) (v ∷ queue) cache P → IsWriter g → calls_to K g.number after_handle ≡ calls_to K g.number P ++ calls.Write v ∷ []
   own_calls s w = calls_to-after_handle s w g.number ∙ rw (same_number g.number) refl
 
-  one_pending : Standing K stopped (g ∷ []) (v ∷ queue) cache P → IsWriter g → pending after_handle g.number ≡ 1
-  one_pending s w = rw (own_calls s w, s.taken g.number) (omega (arith, length-append (calls_to g.number P) (calls.Write v ∷ [])))
+  one_pending : Standing K stopped (g ∷ []) (v ∷ queue) cache P → IsWriter g → pending K after_handle g.number ≡ 1
+  one_pending s w = rw (own_calls s w, s.taken g.number) (omega (arith, length-append (calls_to K g.number P) (calls.Write v ∷ [])))
 
-  pub ready_then : Standing K stopped (g ∷ []) (v ∷ queue) cache P → IsWriter g → ready after_handle ≡ Some g.number
-  ready_then s w = ready_first after_handle g s.registers (rw (w.plugged, s.unretired g.number, s.home g.number, one_pending s w) refl)
+  pub ready_then : Standing K stopped (g ∷ []) (v ∷ queue) cache P → IsWriter g → ready K after_handle ≡ Some g.number
+  ready_then s w = ready_first K after_handle g s.registers (rw (w.plugged, s.unretired g.number, s.home g.number, one_pending s w) refl)
 
-  pub next_then : Standing K stopped (g ∷ []) (v ∷ queue) cache P → IsWriter g → next_call after_handle g.number ≡ Some (calls.Write v)
-  next_then s w = rw (own_calls s w, s.taken g.number) (seam (calls_to g.number P) (calls.Write v) [])
+  pub next_then : Standing K stopped (g ∷ []) (v ∷ queue) cache P → IsWriter g → next_call K after_handle g.number ≡ Some (calls.Write v)
+  next_then s w = rw (own_calls s w, s.taken g.number) (seam (calls_to K g.number P) (calls.Write v) [])
 
   -- ---- the write is taken and answered
 
@@ -213,7 +223,7 @@ module _ (K : Opening) (stopped : Bool) (g : Registration) (P : History) (v : Va
   at_home true o e = refl
   at_home false o e = e
 
-  pub handles_written : Standing K stopped (g ∷ []) (v ∷ queue) cache P → IsWriter g → Standing K stopped (g ∷ []) queue (stored K (Some v) now cache) after_done
+  pub handles_written : Standing K stopped (g ∷ []) (v ∷ queue) cache P → IsWriter g → Standing K stopped (g ∷ []) queue (stored K v now cache) after_done
   handles_written s w = record {
     legal = (((s.legal, (refl, one_queued v queue s)), (ready_then s w, next_then s w)), rw (same_number g.number) refl);
     is_so = s.is_so;
@@ -224,20 +234,20 @@ module _ (K : Opening) (stopped : Bool) (g : Registration) (P : History) (v : Va
     earlier = s.earlier ++ v ∷ [];
     queued = s.queued ∙ sym (append_assoc s.earlier (v ∷ []) queue);
     counted = ap (λ (n : ℕ). n + 1) s.counted ∙ one_more s.earlier v;
-    taken = λ r. one_more_taken (nat_eq g.number r) (takes r P) (calls_to r P) (s.taken r) ∙ ap length (sym (calls_to-after_done s w r));
-    answered = λ r. one_more_answered (nat_eq g.number r) (answers_to r P) (calls_to r P) (s.answered r) ∙ ap length (sym (calls_to-after_done s w r));
+    taken = λ r. one_more_taken (nat_eq g.number r) (takes r P) (calls_to K r P) (s.taken r) ∙ ap length (sym (calls_to-after_done s w r));
+    answered = λ r. one_more_answered (nat_eq g.number r) (answers_to r P) (calls_to K r P) (s.answered r) ∙ ap length (sym (calls_to-after_done s w r));
     caches = stored_next v queue now s;
   }
 
-  pub works_written : {O : History} {given : List Given} → Standing K stopped (g ∷ []) (v ∷ queue) cache P → IsWriter g → Works K O given P
-      → Works K O ((given ++ Now now ∷ []) ++ Answered answer ∷ []) after_done
-  works_written s w so_far = called (handled so_far (none_ready s) (one_queued v queue s)) (ready_then s w) (next_then s w)
+  pub works_written : {O : History} {given : List Given} → Standing K stopped (g ∷ []) (v ∷ queue) cache P → IsWriter g → Works K IsAsked O given P
+      → Works K IsAsked O ((given ++ Now now ∷ []) ++ Answered answer ∷ []) after_done
+  works_written s w so_far = called (handled so_far (none_ready s) (one_queued v queue s) refl) (ready_then s w) (next_then s w)
 
 -- ---- a query
 
 pub asks : {K : Opening} {stopped : Bool} {regs : List Registration} {queue : List ValueList} {cache : List CacheEntry} {P : History} (name : Option (List ℕ))
     → Standing K stopped regs queue cache P → Standing K stopped regs queue cache (P ▸ entry.Query 0 name (query_answer K P name))
-asks {P = P} name s = record {
+asks {K = K} {P = P} name s = record {
   legal = (s.legal, refl);
   is_so = s.is_so;
   registers = s.registers;
@@ -247,7 +257,7 @@ asks {P = P} name s = record {
   earlier = s.earlier;
   queued = s.queued;
   counted = s.counted;
-  taken = λ r. s.taken r ∙ ap length (sym (quiet (calls_to r P)));
-  answered = λ r. s.answered r ∙ ap length (sym (quiet (calls_to r P)));
+  taken = λ r. s.taken r ∙ ap length (sym (quiet (calls_to K r P)));
+  answered = λ r. s.answered r ∙ ap length (sym (quiet (calls_to K r P)));
   caches = s.caches;
 }

@@ -13,7 +13,7 @@ use Rattle.cd_history.specs.declared.given.Given.TheVariants.{Now, Word, Answere
 use Rattle.cd_history.specs.History.{History, ◌▸◌}
 use Rattle.cd_history.specs.Registrations.{Registration}
 use Rattle.cd_daemon.specs.Answers.{handle_answer}
-use Rattle.cd_daemon.specs.Cached.{stored}
+use Rattle.cd_daemon.specs.Handling.{stored}
 use Rattle.cd_transcript.specs.LineRuns.{OnShelf, returned, handled}
 use Rattle.cd_serve.specs.Standing.{Standing, IsWriter, registration_of, AreOf, Writes, RunsOn, called_first}
 use Rattle.cd_serve.specs.Tells.{Gave}
@@ -24,21 +24,21 @@ use Rattle.cd_serve.proofs.Shelves.{run_handles_unwritten, run_handles_written}
 
 module _ (begun : Seen) (start : History) (before : List Given) (list : ValueList) (queue : List ValueList) (seen : Seen) (now : ℕ) where
   -- the cache is made with the types that the daemon knows
-  cache_same : seen.types ≡ begun.types → stored (opening_of seen) (Some list) now seen.cache ≡ stored (opening_of begun) (Some list) now seen.cache
+  cache_same : seen.types ≡ begun.types → stored (opening_of seen) list now seen.cache ≡ stored (opening_of begun) list now seen.cache
   cache_same e = rw e refl
 
   -- nobody writes the list
   pub handled_unwritten : IsWorking begun start before (list ∷ queue) seen → IfSome seen.pairs.clock (λ pair. now ≡ pair.0) → seen.writer ≡ false
       → IsWorking begun start before queue (with_list list now (with_moment now seen))
   handled_unwritten w at unwritten = record {
-    past = w.past ▸ entry.Handle 0 now (handle_answer (opening_of begun) w.past);
+    past = w.past ▸ entry.Handle 0 now (handle_answer (opening_of begun) w.past now);
     types = w.types;
-    runs = let R : List CacheEntry → Type 0 = λ cache. RunsOn (opening_of begun) begun.shelf seen.shelf seen.writer queue cache (w.past ▸ entry.Handle 0 now (handle_answer (opening_of begun) w.past)) in
-        subst R (sym (cache_same w.types)) (let F : Bool → Type 0 = λ writer. RunsOn (opening_of begun) begun.shelf seen.shelf writer queue (stored (opening_of begun) (Some list) now seen.cache) (w.past ▸ entry.Handle 0 now (handle_answer (opening_of begun) w.past)) in
+    runs = let R : List CacheEntry → Type 0 = λ cache. RunsOn (opening_of begun) begun.shelf seen.shelf seen.writer queue cache (w.past ▸ entry.Handle 0 now (handle_answer (opening_of begun) w.past now)) in
+        subst R (sym (cache_same w.types)) (let F : Bool → Type 0 = λ writer. RunsOn (opening_of begun) begun.shelf seen.shelf writer queue (stored (opening_of begun) list now seen.cache) (w.past ▸ entry.Handle 0 now (handle_answer (opening_of begun) w.past now)) in
         subst F (sym unwritten) (run_handles_unwritten list now (let G : Bool → Type 0 = λ writer. RunsOn (opening_of begun) begun.shelf seen.shelf writer (list ∷ queue) seen.cache w.past in subst G unwritten w.runs)));
     given = w.given ++ Now now ∷ [];
     follows = ap (λ (g : List Given). g ++ Now now ∷ []) w.follows ∙ append_assoc before w.given (Now now ∷ []);
-    works = handled w.works (none_ready w.runs.standing) (one_queued list queue w.runs.standing);
+    works = handled w.works (none_ready w.runs.standing) (one_queued list queue w.runs.standing) refl;
     gave = gave_moment begun.pairs seen.pairs seen.given now w.gave at;
   }
 
@@ -63,14 +63,14 @@ module _ (begun : Seen) (start : History) (before : List Given) (list : ValueLis
       let one : RunsOn (opening_of begun) (plug ∷ []) seen.shelf true (list ∷ queue) seen.cache w.past =
       (let O : List OnShelf → Type 0 = λ opened. RunsOn (opening_of begun) opened seen.shelf true (list ∷ queue) seen.cache w.past in subst O by.1 r) in
       let Q : History = after_done (opening_of begun) false (registration_of plug) w.past list queue seen.cache now answer in
-      let then_runs : RunsOn (opening_of begun) (plug ∷ []) (called_first (calls.Write list) answer seen.shelf) true queue (stored (opening_of begun) (Some list) now seen.cache) Q =
+      let then_runs : RunsOn (opening_of begun) (plug ∷ []) (called_first (calls.Write list) answer seen.shelf) true queue (stored (opening_of begun) list now seen.cache) Q =
       run_handles_written (opening_of begun) plug seen.shelf queue seen.cache w.past list now answer one standing by.3 in
       record {
         past = Q;
         types = w.types;
         runs = (let R : List CacheEntry → Type 0 = λ cache. RunsOn (opening_of begun) begun.shelf (called_first (calls.Write list) answer seen.shelf) seen.writer queue cache Q in
-            subst R (sym (cache_same w.types)) (let F : Bool → Type 0 = λ writer. RunsOn (opening_of begun) begun.shelf (called_first (calls.Write list) answer seen.shelf) writer queue (stored (opening_of begun) (Some list) now seen.cache) Q in
-            subst F (sym written) (let O : List OnShelf → Type 0 = λ opened. RunsOn (opening_of begun) opened (called_first (calls.Write list) answer seen.shelf) true queue (stored (opening_of begun) (Some list) now seen.cache) Q in subst O (sym by.1) then_runs)));
+            subst R (sym (cache_same w.types)) (let F : Bool → Type 0 = λ writer. RunsOn (opening_of begun) begun.shelf (called_first (calls.Write list) answer seen.shelf) writer queue (stored (opening_of begun) list now seen.cache) Q in
+            subst F (sym written) (let O : List OnShelf → Type 0 = λ opened. RunsOn (opening_of begun) opened (called_first (calls.Write list) answer seen.shelf) true queue (stored (opening_of begun) list now seen.cache) Q in subst O (sym by.1) then_runs)));
         given = (w.given ++ Now now ∷ []) ++ Answered answer ∷ [];
         follows = ap (λ (g : List Given). (g ++ Now now ∷ []) ++ Answered answer ∷ []) w.follows
             ∙ ap (λ (g : List Given). g ++ Answered answer ∷ []) (append_assoc before w.given (Now now ∷ []))
@@ -85,8 +85,8 @@ module _ (begun : Seen) (start : History) (before : List Given) (list : ValueLis
       let r : RunsOn (opening_of begun) begun.shelf seen.shelf true (list ∷ queue) seen.cache w.past =
       (let G : Bool → Type 0 = λ writer. RunsOn (opening_of begun) begun.shelf seen.shelf writer (list ∷ queue) seen.cache w.past in subst G written w.runs) in
       let by = written_by begun.shelf r.regs r.of_shelf r.writes in
-      let same : seen.shelf ≡ returned w.past (by.0 ∷ []) = r.back ∙ ap (returned w.past) by.1 in
-      let e : [] ≡ returned w.past (by.0 ∷ []) = sym empty ∙ same in
+      let same : seen.shelf ≡ returned (opening_of begun) w.past (by.0 ∷ []) = r.back ∙ ap (returned (opening_of begun) w.past) by.1 in
+      let e : [] ≡ returned (opening_of begun) w.past (by.0 ∷ []) = sym empty ∙ same in
       cc
 
 pub on_ok : {T E : Type 0} {A B : Type 0} (r : Result T E) → (A → B) → OnOk r A → OnOk r B

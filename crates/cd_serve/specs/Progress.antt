@@ -19,21 +19,18 @@ use Rattle.cd_io.specs.Told.{clock_after, dice_after}
 use Rattle.cd_registry.specs.declared.plug.PlugTells.{PlugTells}
 use Rattle.cd_registry.specs.declared.calls.Answer.{Answer}
 use Rattle.cd_registry.specs.declared.calls.Call.{Call}
-use Rattle.cd_daemon.specs.Cached.{stored}
+use Rattle.cd_daemon.specs.Handling.{stored}
 use Rattle.cd_serve.specs.declared.daemon.Daemon.{Daemon}
 use Rattle.cd_serve.specs.Shelf.{on_shelf}
 use Rattle.cd_history.specs.declared.given.Given.{Given}
 use Rattle.cd_history.specs.declared.given.Given.TheVariants.{Now, Word, Answered}
 use Rattle.cd_history.specs.History.{History}
 use Rattle.cd_daemon.specs.declared.Opening.{Opening}
-use Rattle.cd_transcript.specs.Transcripts.{Said, Written, reply_of}
-use Rattle.cd_transcript.specs.LineRuns.{OnShelf, registered, Works, Serves as ServesLines}
+use Rattle.cd_daemon.specs.declared.TheConstants.{INTERVAL}
+use Rattle.cd_transcript.specs.Transcripts.{Said, IsTranscript, of_lines, found_reply}
+use Rattle.cd_transcript.specs.LineRuns.{OnShelf, Opens, Works, IsAsked, ServesLines}
 use Rattle.cd_serve.specs.Standing.{RunsOn, called_first}
 use Rattle.cd_serve.specs.Tells.{Pairs, Gave, GaveAll}
-
--- the interval of lists whose line names none: 10 seconds
-abbrev pub INTERVAL : ℕ
-INTERVAL = 10737418240
 
 -- what a line says at a moment; of one that is too long nothing is kept
 abbrev pub says : List DataSet → Cut → ℕ → Said
@@ -54,11 +51,13 @@ opening_of seen = record { types = seen.types }
 
 -- a daemon that began like this has served these lines, and this text was written
 pub record HasServed (begun : Seen) (lines : List Cut) (text : List ℕ) (seen : Seen) : Type 0 where
+  pub opened : History
   pub past : History
   pub types : seen.types ≡ begun.types
   pub runs : RunsOn (opening_of begun) begun.shelf seen.shelf seen.writer [] seen.cache past
-  pub serves : ServesLines (opening_of begun) (says begun.types) lines (registered begun.shelf []) seen.given past
-  pub written : Written (says begun.types) lines past text
+  pub opens : Opens begun.shelf [] [] opened
+  pub serves : ServesLines (opening_of begun) (says begun.types) lines opened seen.given past
+  pub written : IsTranscript (says begun.types) lines (of_lines past) text
   pub gave : GaveAll begun.pairs seen.pairs seen.given
 
 -- it works from a history on, and these lists are queued
@@ -68,7 +67,7 @@ pub record IsWorking (begun : Seen) (start : History) (before : List Given) (que
   pub runs : RunsOn (opening_of begun) begun.shelf seen.shelf seen.writer queue seen.cache past
   pub given : List Given
   pub follows : seen.given ≡ before ++ given
-  pub works : Works (opening_of begun) start given past
+  pub works : Works (opening_of begun) IsAsked start given past
   pub gave : GaveAll begun.pairs seen.pairs seen.given
 
 -- what is seen of a daemon, where these tell what its clock, its dice and its plug-ins tell
@@ -105,7 +104,7 @@ pub record Rolled (count : ℕ) (old new : Seen) : Type 0 where
 
 -- after a list came to the cache at a moment
 abbrev pub with_list : ValueList → ℕ → Seen → Seen
-with_list list now seen = record seen { cache = stored (opening_of seen) (Some list) now seen.cache }
+with_list list now seen = record seen { cache = stored (opening_of seen) list now seen.cache }
 
 -- after the first plug-in was called and gave that answer
 abbrev pub with_answer : Call → Answer → Seen → Seen
@@ -125,7 +124,7 @@ pub record Puts (lists : List ValueList) (old new : Seen) : Type 0 where
 abbrev pub Obeys : Command → Reply → Seen → Seen → Type 0
 Obeys command.Blank reply old new = Unit {0}
 Obeys (command.PutVal lists) reply old new = (reply ≡ replies.Success) × Puts lists old new
-Obeys (command.GetVal id) reply old new = (new ≡ old) × (reply ≡ reply_of (found_in (opening_of old) (cached (name_of id) old.cache)))
+Obeys (command.GetVal id) reply old new = (new ≡ old) × (reply ≡ found_reply (found_in (opening_of old) (cached (name_of id) old.cache)))
 Obeys command.ListVal reply old new = (new ≡ old) × (reply ≡ replies.Listed (rows_of old.cache))
 
 -- a line was served, and has this reply

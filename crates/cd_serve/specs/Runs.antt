@@ -6,11 +6,12 @@ use Rattle.cd_types.specs.Types.{builtin}
 use Rattle.cd_sock.specs.Lines.{Cut, cut, cut_lines, whole_lines}
 use Rattle.cd_history.specs.declared.given.Given.{Given}
 use Rattle.cd_history.specs.History.{History, handles, kept}
-use Rattle.cd_history.specs.Registrations.{has_kind, WRITE}
+use Rattle.cd_registry.specs.declared.kinds.TheConstants.Kinds.{WRITE}
+use Rattle.cd_history.specs.Registrations.{has_kind}
 use Rattle.cd_daemon.specs.declared.Opening.{Opening}
 use Rattle.cd_daemon.specs.Answers.{is_reserved}
 use Rattle.cd_daemon.specs.Legal.{IsLegal}
-use Rattle.cd_transcript.specs.Transcripts.{Said, of_lines, transcript}
+use Rattle.cd_transcript.specs.Transcripts.{Said, of_lines, IsTranscript}
 use Rattle.cd_transcript.specs.LineRuns.{OnShelf, returned, IsLineRun}
 use Rattle.cd_serve.specs.declared.end.End.{End}
 use Rattle.cd_serve.specs.declared.end.End.TheVariants as ends
@@ -27,7 +28,7 @@ pub record IsRun {Line : Type 0} (K : Opening) (says : Line → ℕ → Said) (s
   pub made : IsLineRun K says shelf lines given H
   pub only : (other : History) → IsLineRun K says shelf lines given other → other ≡ H
   pub handled : handles H ≡ length (kept H)
-  pub told : back ≡ returned H shelf
+  pub told : back ≡ returned K H shelf
 
 -- the words of the command line are the program's name and `--lines`
 abbrev pub is_lines : List (List ℕ) → Bool
@@ -49,33 +50,32 @@ opening = record { types = builtin }
 abbrev pub line_says : Cut → ℕ → Said
 line_says = says builtin
 
--- what is written for lines and a history
-abbrev pub written_of : List Cut → History → List ℕ
-written_of lines H = transcript line_says lines (of_lines H)
+-- These lines were served, in one history, with this transcript; and the clock and the dice gave just what was given, in
+-- order.
+pub record HasRun (shelf back : List OnShelf) (given : List Given) (begun : Pairs) (lines : List Cut) (text : List ℕ) : Type 0 where
+  pub history : History
+  pub run : IsRun opening line_says shelf back lines given history
+  pub transcript : IsTranscript line_says lines (of_lines history) text
+  pub last : Pairs
+  pub gave : GaveAll begun last given
 
 module _ (shelf back : List OnShelf) (given : List Given) (begun : Pairs) (before after : LinkTells) where
-  -- the clock and the dice gave just what was given, in order
-  abbrev pub GaveJust : Type 0
-  GaveJust = (last : Pairs) × GaveAll begun last given
-
   -- All lines that were heard were served, and their transcript was said. Nothing is left, or nothing came for a while.
   pub record IsDone : Type 0 where
     pub heard : List ℕ
-    pub history : History
+    pub text : List ℕ
     pub short : length heard ≤ LIMIT
-    pub run : IsRun opening line_says shelf back (cut_lines heard) given history
-    pub spoke : Spoke heard (written_of (cut_lines heard) history) before after
+    pub served : HasRun shelf back given begun (cut_lines heard) text
+    pub spoke : Spoke heard text before after
     pub ended : (IfSome after.left (λ bytes. bytes ≡ [])) ⊎ Rose before.quiets after.quiets
-    pub gave : GaveJust
 
   -- More came than is taken. The whole lines of what is taken were served, and their transcript was said.
   pub record IsTooLong : Type 0 where
     pub heard : List ℕ
-    pub history : History
+    pub text : List ℕ
     pub long : LIMIT < length heard
-    pub run : IsRun opening line_says shelf back (map cut (whole_lines (take LIMIT heard))) given history
-    pub spoke : Spoke heard (written_of (map cut (whole_lines (take LIMIT heard))) history) before after
-    pub gave : GaveJust
+    pub served : HasRun shelf back given begun (map cut (whole_lines (take LIMIT heard))) text
+    pub spoke : Spoke heard text before after
 
   -- The link failed. The first of the lines that were heard were served, and a beginning of their transcript was said.
   pub record IsBroken : Type 0 where
@@ -83,14 +83,11 @@ module _ (shelf back : List OnShelf) (given : List Given) (begun : Pairs) (befor
     pub lines : List Cut
     pub unserved : List Cut
     pub are : lines ++ unserved ≡ cut_lines heard
-    pub history : History
-    pub run : IsRun opening line_says shelf back lines given history
     pub said : List ℕ
     pub unsaid : List ℕ
-    pub parts : said ++ unsaid ≡ written_of lines history
+    pub served : HasRun shelf back given begun lines (said ++ unsaid)
     pub spoke : Spoke heard said before after
     pub rose : Rose before.faults after.faults
-    pub gave : GaveJust
 
   -- nothing was done
   pub record IsUntouched : Type 0 where

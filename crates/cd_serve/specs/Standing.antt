@@ -6,11 +6,12 @@ use Rattle.cd_registry.specs.declared.calls.Answer.{Answer}
 use Rattle.cd_registry.specs.declared.calls.Call.{Call}
 use Rattle.cd_registry.specs.Told.{told_after}
 use Rattle.cd_history.specs.History.{History, handles, is_stopped, kept}
-use Rattle.cd_history.specs.Registrations.{Registration, registrations, is_closed, is_retired, is_plug, has_kind, WRITE}
+use Rattle.cd_registry.specs.declared.kinds.TheConstants.Kinds.{WRITE}
+use Rattle.cd_history.specs.Registrations.{Registration, registrations, is_closed, is_retired, is_plug, has_kind}
 use Rattle.cd_history.specs.Leases.{takes, answers_to, taken_by}
 use Rattle.cd_daemon.specs.declared.Opening.{Opening}
 use Rattle.cd_cache.specs.declared.entry.CacheEntry.{CacheEntry}
-use Rattle.cd_daemon.specs.Cached.{cache_after}
+use Rattle.cd_daemon.specs.Calls.{cache_after}
 use Rattle.cd_daemon.specs.Calls.{calls_to}
 use Rattle.cd_daemon.specs.Legal.{IsLegal}
 use Rattle.cd_history.specs.declared.entry.Joining.TheVariants as joining
@@ -27,8 +28,8 @@ pub record Standing (K : Opening) (stopped : Bool) (regs : List Registration) (q
   pub earlier : List ValueList
   pub queued : kept P ≡ earlier ++ queue
   pub counted : handles P ≡ length earlier
-  pub taken : (r : ℕ) → takes r P ≡ length (calls_to r P)
-  pub answered : (r : ℕ) → length (answers_to r P) ≡ length (calls_to r P)
+  pub taken : (r : ℕ) → takes r P ≡ length (calls_to K r P)
+  pub answered : (r : ℕ) → length (answers_to r P) ≡ length (calls_to K r P)
   pub caches : cache_after K P ≡ cache
 
 -- a registration of a plug-in that is called with lists
@@ -58,7 +59,7 @@ pub record RunsOn (K : Opening) (opened shelf : List OnShelf) (writer : Bool) (q
   pub standing : Standing K false regs queue cache P
   pub of_shelf : AreOf opened regs
   pub writes : Writes writer regs
-  pub back : shelf ≡ returned P opened
+  pub back : shelf ≡ returned K P opened
 
 -- the first plug-in was called and gave that answer
 abbrev pub called_first : Call → Answer → List OnShelf → List OnShelf

@@ -3,7 +3,7 @@ use Rattle.std.specs.Prelude.{◌≡◌, ℕ, List, [], ◌∷◌, Option, IfSom
 use Rattle.std.specs.Option.{option_map}
 use Rattle.cd_io.specs.Told.{clock_after, dice_after}
 use Rattle.cd_history.specs.declared.given.Given.{Given}
-use Rattle.cd_history.specs.declared.given.Given.TheVariants.{Now, Word, Answered}
+use Rattle.cd_history.specs.declared.given.Given.TheVariants.{Now, Word, Answered, Read}
 
 -- the moments among what was given, in order
 abbrev pub moments : List Given → List ℕ
@@ -11,6 +11,7 @@ moments [] = []
 moments (Now now ∷ given) = now ∷ moments given
 moments (Word word ∷ given) = moments given
 moments (Answered answer ∷ given) = moments given
+moments (Read lists ∷ given) = moments given
 
 -- the words of the dice among what was given, in order
 abbrev pub words : List Given → List ℕ
@@ -18,6 +19,7 @@ words [] = []
 words (Now now ∷ given) = words given
 words (Word word ∷ given) = word ∷ words given
 words (Answered answer ∷ given) = words given
+words (Read lists ∷ given) = words given
 
 -- what tells, as a pair, which number comes next and the step, gave these numbers and then tells the last pair
 abbrev pub Gave : (ℕ × ℕ → ℕ × ℕ) → Option (ℕ × ℕ) → List ℕ → Option (ℕ × ℕ) → Type 0

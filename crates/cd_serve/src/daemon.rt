@@ -9,12 +9,13 @@ ghost use Rattle.cd_sock.specs.Faults as faults;
 ghost use Rattle.cd_sock.specs.Lines.{content};
 ghost use Rattle.cd_sock.specs.Meaning.{is_blank_line};
 ghost use Rattle.cd_daemon.specs.Answers.{found_in, source_names};
-ghost use Rattle.cd_transcript.specs.Transcripts.{reply_of};
+ghost use Rattle.cd_transcript.specs.Transcripts.{found_reply};
 ghost use Rattle.cd_serve.specs.Shelf.{on_shelf, places, shown};
 ghost use Rattle.cd_serve.specs.Progress.{IsWorking, Seen, opening_of, seen_of, with_moment, with_word, with_list, Rolled, WasCalled, Puts, Obeys, Serves};
 
 use crate::shelf::ShelvedOf;
 use cd_cache::{Cache, CacheEntry};
+use cd_daemon::INTERVAL;
 use cd_history::{Given, Givens};
 use cd_io::{Clock, Dice};
 use cd_registry::{Answer, Call, Plug};
@@ -22,9 +23,6 @@ use cd_sock::{Command, Line, LineFault, Reply, is_blank_line, print_reply};
 use cd_types::TypesDb;
 use cd_value::{DataSource, Lists, Memory, Names, Text, TryCopy, ValueList};
 use std::alloc::Global;
-
-/// The interval of lists whose line names none, in units of 2^-30 s: 10 seconds.
-const INTERVAL: u64 = 10_737_418_240;
 
 /// The daemon: the types that it knows, the plug-ins of its shelf, of which the first may be registered as a writer, the
 /// value cache, its clock and dice, and what these and the plug-ins gave so far.
@@ -151,7 +149,7 @@ impl<C: Clock, D: Dice, P: Plug> Daemon<C, D, P> {
 
     /// The rates that are cached under a name.
     fn found(&self, alloc: Global, name: &Text) -> Result<Reply, Memory>
-        ensures { IfOk result (λ reply. reply ≡ reply_of (found_in
+        ensures { IfOk result (λ reply. reply ≡ found_reply (found_in
             (opening_of (seen_of C.clock_pair D.dice_pair P.plug_tells self.now))
             (cached name.now self.now.cache))) }
     {

@@ -11,6 +11,7 @@ use crate::daemon::Daemon;
 use crate::stream::serve_input;
 use crate::{End, Shelved, ShelvedOf, ShelvedProbe, ShelvedProbeOf};
 use cd_cache::Cache;
+use cd_daemon::TIMEOUT;
 use cd_history::Givens;
 use cd_io::{Clock, Dice, Link, World};
 use cd_registry::{Kinds, Plug, Probe};
@@ -18,9 +19,6 @@ use cd_types::TypesDb;
 use cd_value::{Sequence, Text};
 use std::alloc::Global;
 use std::marker::Send;
-
-/// After how many intervals without a list a name counts as missing, as in collectd.conf(5).
-const TIMEOUT: u32 = 2;
 
 /// What a run gives back: how it ended, what the clock, the dice and the plug-ins gave, in order, and the objects, each
 /// in its place.

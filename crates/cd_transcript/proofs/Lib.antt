@@ -1,2 +1,3 @@
-pub mod Written
+pub mod Transcripts
+pub mod Events
 pub mod Determined

@@ -1,0 +1,62 @@
+-- What handling a value list does: what becomes of it, the cache then, and the calls that it makes.
+use Rattle.std.specs.Prelude.{ℕ, List, [], map, slice_get, Option, None, Some}
+use Rattle.cd_value.specs.declared.data.ValueList.{ValueList}
+use Rattle.cd_registry.specs.declared.calls.Call.{Call}
+use Rattle.cd_registry.specs.declared.calls.Call.TheVariants as calls
+use Rattle.cd_registry.specs.declared.kinds.TheConstants.Kinds.{WRITE}
+use Rattle.cd_types.specs.Types.{set_named}
+use Rattle.cd_cache.specs.declared.entry.CacheEntry.{CacheEntry}
+use Rattle.cd_cache.specs.declared.entry.Updated.{Updated}
+use Rattle.cd_cache.specs.declared.entry.Updated.TheVariants as outcomes
+use Rattle.cd_cache.specs.Cache.{updated, outcome}
+use Rattle.cd_history.specs.declared.entry.How.{How}
+use Rattle.cd_history.specs.declared.entry.How.TheVariants as how
+use Rattle.cd_history.specs.History.{History, handles, kept}
+use Rattle.cd_history.specs.Registrations.{Registration, live, listeners}
+use Rattle.cd_daemon.specs.declared.Opening.{Opening}
+
+-- a call that is made to a registration
+pub record Post : Type 0 where
+  pub reg : ℕ
+  pub call : Call
+
+abbrev pub to_each : List ℕ → Call → List Post
+to_each regs call = map (λ r. record { reg = r; call = call }) regs
+
+-- how a list was stored, how many writers that were named were skipped, the cache then, and the calls, in order
+pub record Handling : Type 0 where
+  pub how : How
+  pub skipped : ℕ
+  pub cache : List CacheEntry
+  pub posts : List Post
+
+abbrev pub as_how : Updated → How
+as_how outcomes.Stored = how.Stored
+as_how outcomes.Old = how.Old
+
+-- the cache after a list that came at a moment. Its type is known wherever a list is handled.
+abbrev pub stored : Opening → ValueList → ℕ → List CacheEntry → List CacheEntry
+stored K list now cache = elim (set_named list.id.type_name K.types) [ None ↦ cache | Some set ↦ updated set list now cache ]
+
+-- What handling a list does, with what is in force, the cache, the live registrations and the moment: it is stored unless
+-- what is cached under its name is as new, no writer is skipped, and it is written to all live writers.
+abbrev pub handling : Opening → List CacheEntry → List Registration → ValueList → ℕ → Handling
+handling K cache regs list now = record {
+  how = as_how (outcome list cache);
+  skipped = 0;
+  cache = stored K list now cache;
+  posts = to_each (listeners WRITE regs) (calls.Write list);
+}
+
+-- what handling does; where no list is left, nothing
+abbrev pub handling_if_any : Opening → List CacheEntry → List Registration → Option ValueList → ℕ → Handling
+handling_if_any K cache regs None now = record { how = how.StoppedBefore; skipped = 0; cache = cache; posts = [] }
+handling_if_any K cache regs (Some list) now = handling K cache regs list now
+
+-- the list that the next Handle takes
+abbrev pub next_list : History → Option ValueList
+next_list P = slice_get (kept P) (handles P)
+
+-- what the next Handle does at a moment, with that cache
+abbrev pub next_handling : Opening → List CacheEntry → History → ℕ → Handling
+next_handling K cache P now = handling_if_any K cache (live P) (next_list P) now

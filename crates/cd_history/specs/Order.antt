@@ -1,0 +1,12 @@
+-- A history and its events in the order in which they came.
+use Rattle.std.specs.Prelude.{◌≡◌, List, ◌++◌, reverse}
+use Rattle.cd_history.specs.History.{Event, History}
+
+-- the history of events that stand with the oldest first; and of a history, its events so
+abbrev pub history_of : List Event → History
+history_of events = reverse events
+
+-- a history came out of an earlier one by more events
+pub record Continues (P H : History) : Type 0 where
+  pub later : History
+  pub is : H ≡ later ++ P

@@ -1,0 +1,88 @@
+-- Which events of lines a run's parts leave, and what a line that was served writes.
+use Rattle.std.proofs.Common.{◌≡◌, ℕ, Bool, true, false, List, [], ◌∷◌, ◌++◌, None, Some, Result, Ok, Err, refl, sym, ap, ◌∙◌, subst}
+use Rattle.std.proofs.lemmas.List.{append-nil, reverse-append}
+use Rattle.std.specs.List.{filter}
+use Rattle.cd_value.specs.declared.data.Offered.{Offered}
+use Rattle.cd_value.specs.declared.data.ValueList.{ValueList}
+use Rattle.cd_value.specs.Identifier.{Fields, name_of}
+use Rattle.cd_sock.specs.declared.command.Command.TheVariants as command
+use Rattle.cd_sock.specs.declared.fault.LineFault.{LineFault}
+use Rattle.cd_sock.specs.declared.reply.Reply.TheVariants as reply
+use Rattle.cd_sock.specs.Replies.{reply_text}
+use Rattle.cd_history.specs.declared.entry.Entry.TheVariants as entry
+use Rattle.cd_history.specs.declared.entry.Found.{Found}
+use Rattle.cd_history.specs.declared.entry.Stopping.{Stopping}
+use Rattle.cd_history.specs.declared.given.Given.{Given}
+use Rattle.cd_history.specs.History.{Event, History, ◌▸◌}
+use Rattle.cd_history.specs.Registrations.{Registration}
+use Rattle.cd_daemon.specs.declared.Opening.{Opening}
+use Rattle.cd_transcript.specs.Transcripts.{Said, is_of_a_line, of_lines, offered_reply, found_reply, IsTranscript, nothing, blank, refused, put, got, listed}
+use Rattle.cd_transcript.specs.LineRuns.{OnShelf, Opens, none, plug_in, Works, nothing as no_work, called, handled, closed}
+use Rattle.cd_transcript.proofs.Transcripts.{joined, as_text}
+
+-- work uses no line
+pub works-of_lines : {K : Opening} {Moment : ℕ → List Given → Type 0} {P Q : History} {given : List Given} → Works K Moment P given Q → of_lines Q ≡ of_lines P
+works-of_lines no_work = refl
+works-of_lines (called w is next) = works-of_lines w
+works-of_lines (handled w is within at) = works-of_lines w
+
+pub opens-of_lines : {shelf : List OnShelf} {P Q : History} {given : List Given} → Opens shelf P given Q → of_lines Q ≡ of_lines P
+opens-of_lines none = refl
+opens-of_lines (plug_in opens) = opens-of_lines opens
+
+pub closed-of_lines : (K : Opening) (gs : List Registration) (P : History) → of_lines (closed K gs P) ≡ of_lines P
+closed-of_lines K [] P = refl
+closed-of_lines K (g ∷ gs) P = closed-of_lines K gs _
+
+one_event : (Q : History) (e : Event) → of_lines (Q ▸ e) ≡ of_lines Q ++ of_lines ([] ▸ e)
+one_event Q e = by (is_of_a_line e) refl
+  where
+    by : (t : Bool) → is_of_a_line e ≡ t → of_lines (Q ▸ e) ≡ of_lines Q ++ of_lines ([] ▸ e)
+    by true is = rw is (reverse-append (e ∷ []) (filter is_of_a_line Q))
+    by false is = rw is (sym (append-nil (of_lines Q)))
+
+module _ {Line : Type 0} (says : Line → ℕ → Said) where
+  -- a line uses these events, and this text is written for it
+  pub record Writes (l : Line) (Q R : History) (text : List ℕ) : Type 0 where
+    pub events : List Event
+    pub more : of_lines R ≡ of_lines Q ++ events
+    pub transcript : IsTranscript says (l ∷ []) events text
+
+  pub blank_writes : (l : Line) (Q : History) → says l 0 ≡ Ok command.Blank → Writes l Q Q []
+  blank_writes l Q is = record { events = []; more = sym (append-nil (of_lines Q)); transcript = blank is nothing }
+
+  alone : {l : Line} {events : List Event} {text : List ℕ} → IsTranscript says (l ∷ []) events (text ++ []) → IsTranscript says (l ∷ []) events text
+  alone {text = text} t = as_text says t (append-nil text)
+
+  module _ {K : Opening} {Moment : ℕ → List Given → Type 0} (l : Line) (Q R : History) {given : List Given} where
+    pub refused_writes : (fault : LineFault) → says l 0 ≡ Err fault → Works K Moment Q given R → Writes l Q R (reply_text (reply.Fault fault))
+    refused_writes fault is w = record { events = []; more = works-of_lines w ∙ sym (append-nil (of_lines Q)); transcript = alone (refused is nothing) }
+
+    pub put_writes : (a now : ℕ) (lists : List ValueList) (words : List ℕ) (answer : Result (List Offered) Stopping)
+        → says l now ≡ Ok (command.PutVal lists) → Works K Moment (Q ▸ entry.Accept a lists words now answer) given R → Writes l Q R (reply_text (offered_reply answer))
+    put_writes a now lists words answer is w = record {
+      events = entry.Accept a lists words now answer ∷ [];
+      more = works-of_lines w ∙ one_event Q (entry.Accept a lists words now answer);
+      transcript = alone (put is nothing);
+    }
+
+    pub got_writes : (a : ℕ) (id : Fields) (answer : Found)
+        → says l 0 ≡ Ok (command.GetVal id) → Works K Moment (Q ▸ entry.Query a (Some (name_of id)) answer) given R → Writes l Q R (reply_text (found_reply answer))
+    got_writes a id answer is w = record {
+      events = entry.Query a (Some (name_of id)) answer ∷ [];
+      more = works-of_lines w ∙ one_event Q (entry.Query a (Some (name_of id)) answer);
+      transcript = alone (got is nothing);
+    }
+
+    pub listed_writes : (a : ℕ) (answer : Found)
+        → says l 0 ≡ Ok command.ListVal → Works K Moment (Q ▸ entry.Query a None answer) given R → Writes l Q R (reply_text (found_reply answer))
+    listed_writes a answer is w = record {
+      events = entry.Query a None answer ∷ [];
+      more = works-of_lines w ∙ one_event Q (entry.Query a None answer);
+      transcript = alone (listed is nothing);
+    }
+
+  pub written_more : {lines : List Line} {l : Line} {Q R : History} {text more : List ℕ} → IsTranscript says lines (of_lines Q) text → Writes l Q R more
+      → IsTranscript says (lines ++ l ∷ []) (of_lines R) (text ++ more)
+  written_more {lines = lines} {l = l} {text = text} {more = more} t w =
+      subst (λ (events : List Event). IsTranscript says (lines ++ l ∷ []) events (text ++ more)) (sym w.more) (joined says t w.transcript)
