@@ -3,7 +3,7 @@ use Rattle.std.proofs.Common.{◌≡◌, ◌≢◌, ◌⊎◌, ℕ, List, [], �
 use Rattle.atomic_table.proofs.Lists.{at_snoc}
 use Rattle.cd_turn.specs.declared.view.View.{View}
 use Rattle.cd_turn.specs.Rule.{At, IsFull, IsOver, most}
-use Rattle.cd_turn.specs.Passes.{over_or}
+use Rattle.cd_turn.specs.Families.{over_or}
 use Rattle.cd_turn.proofs.Views.{set_each}
 
 -- a word that has not its last value changes, and each that has it stays

@@ -1,9 +1,9 @@
 -- What a pass knows and shows, and which turn it is of.
-use Rattle.std.specs.Prelude.{ℕ, Option}
+use Rattle.std.specs.Prelude.{◌≡◌, ℕ, List, [], ◌∷◌, Option}
 use Rattle.cd_turn.specs.declared.pass.Pass.{Pass}
 use Rattle.cd_turn.specs.declared.turn.Turn.{Turn}
 use Rattle.cd_turn.specs.declared.view.View.{View}
-use Rattle.cd_turn.specs.Passes.{IsPass, IsHeld}
+use Rattle.cd_turn.specs.Passes.{IsPass, IsHeld, Shows}
 
 module _ {S E K : Type 0} where
   -- what a pass knows
@@ -30,3 +30,11 @@ module _ {S E K : Type 0} where
   -- a pass of this turn that has the state
   abbrev pub HasTurn : (E → ℕ) → Turn S E K → Pass S E K → Type 0
   HasTurn by t p = IsHeld by t.table.shared.table_id p.seat p.face
+
+  -- the state x is out with the pass
+  abbrev pub InHand : Pass S E K → S → Type 0
+  InHand p x = p.seat.me.1 ≡ (0, x) ∷ []
+
+  -- the state that is out with the pass stands for this list, with the pass's fixed part
+  abbrev pub ShowsFor : (K → List E → S → Type 0) → Pass S E K → List E → Type 0
+  ShowsFor means p log = Shows means p.seat.me log

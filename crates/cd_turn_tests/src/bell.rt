@@ -1,11 +1,11 @@
-//! A state that holds an object, which may be a box.
+//! A state of this crate that holds an object of any, which may be a box, over entries of another crate: an entry is a
+//! `u64`, the number of who rang.
 ghost use Rattle.std.specs.Prelude.{◌≡◌, ◌+◌, ◌%◌, ◌^◌};
 ghost use Rattle.std.specs.Thread.{IsSync};
 ghost use Rattle.cd_turn.specs.Turns.{IsPassOf, actor_of, out_of, parent_of};
-ghost use Rattle.cd_turn_tests.specs.Ticks.{tick_by};
+ghost use Rattle.cd_turn_tests.specs.Towers.{rung_by};
 
-use crate::count::{Tick, Ticked};
-use cd_turn::{Pass, Story, Turn};
+use cd_turn::{Pass, Story, Tells, Turn};
 use std::alloc::Global;
 use std::sync::Wait;
 use std::thread::{Threads, join};
@@ -29,14 +29,23 @@ pub struct Tower<B> {
     pub bell: B,
 }
 
-impl<B> Story<Tick> for Tower<B> {
-    ghost use Rattle.cd_turn_tests.specs.Towers.{Rung};
+impl<B> Story<u64> for Tower<B> {
+    ghost use Rattle.cd_turn_tests.specs.Towers.{Rung, rung_by};
 
     type Fixed = ();
+
+    ghost actor = { rung_by };
 
     ghost fixed = { λ t. tt };
 
     ghost stands = { Rung };
+}
+
+/// A turn tells nothing but who rang.
+pub struct Rings;
+
+impl Tells<(), u64> for Rings {
+    ghost entry = { λ actor x. actor };
 }
 
 impl<B: Bell> Tower<B> {
@@ -52,16 +61,16 @@ impl<B: Bell> Tower<B> {
 /// One turn, in which the bell is rung.
 pub fn ring_once<R: Wait, B: Bell>(
     rt: &R,
-    turn: &Turn<Tower<B>, Tick>,
-    mut pass: Pass<Tower<B>, Tick>,
-) -> Pass<Tower<B>, Tick>
-    requires { IsPassOf tick_by turn.now pass }
-    ensures pass { IsPassOf tick_by turn.now result }
+    turn: &Turn<Tower<B>, u64>,
+    mut pass: Pass<Tower<B>, u64>,
+) -> Pass<Tower<B>, u64>
+    requires { IsPassOf rung_by turn.now pass }
+    ensures pass { IsPassOf rung_by turn.now result }
     ensures same { (actor_of result ≡ actor_of pass) × (parent_of result ≡ parent_of pass) × (out_of result ≡ out_of pass) }
 {
     if let Ok(mut held) = pass.enter(rt, turn) {
         held.state().ring();
-        held.leave::<Ticked, _>(&());
+        held.leave::<Rings, _>(&());
     }
     pass
 }
@@ -79,14 +88,14 @@ pub fn ring_twice<R: Threads + Wait + Sync, B: Bell + Send>(
     let shared = &turn;
     let (mut pass, child) = join(
         rt,
-        || -> Pass<Tower<B>, Tick>
-            requires { IsSync R.row × IsPassOf tick_by shared.now pass }
-            ensures pass { IsPassOf tick_by shared.entry.now result }
+        || -> Pass<Tower<B>, u64>
+            requires { IsSync R.row × IsPassOf rung_by shared.now pass }
+            ensures pass { IsPassOf rung_by shared.entry.now result }
             ensures same { (actor_of result ≡ actor_of pass) × (out_of result ≡ out_of pass) }
         { ring_once(rt, shared, pass) },
-        || -> Pass<Tower<B>, Tick>
-            requires { IsSync R.row × IsPassOf tick_by shared.now child }
-            ensures pass { IsPassOf tick_by shared.entry.now result }
+        || -> Pass<Tower<B>, u64>
+            requires { IsSync R.row × IsPassOf rung_by shared.now child }
+            ensures pass { IsPassOf rung_by shared.entry.now result }
             ensures same { (parent_of result ≡ parent_of child) × (out_of result ≡ out_of child) }
         { ring_once(rt, shared, child) },
     );

@@ -1,7 +1,7 @@
 //! A state that counts its entries.
 ghost use Rattle.std.specs.Prelude.{◌≡◌, ◌+◌, ◌%◌, ◌^◌};
 
-use cd_turn::{Entry, Story, Tells};
+use cd_turn::{Story, Tells};
 
 /// How many turns there were, wrapping.
 #[derive(Drop)]
@@ -14,16 +14,13 @@ pub struct Tick {
     pub by: u64,
 }
 
-impl Entry for Tick {
-    ghost use Rattle.cd_turn_tests.specs.Ticks.{tick_by};
-
-    ghost actor = { tick_by };
-}
-
 impl Story<Tick> for Count {
     ghost use Rattle.cd_turn_tests.specs.Counts.{Counts};
+    ghost use Rattle.cd_turn_tests.specs.Ticks.{tick_by};
 
     type Fixed = ();
+
+    ghost actor = { tick_by };
 
     ghost fixed = { λ c. tt };
 

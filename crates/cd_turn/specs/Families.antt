@@ -1,0 +1,72 @@
+-- Passes that are split off, and joined.
+use Rattle.std.specs.Prelude.{◌≡◌, ◌⊎◌, ℕ, ◌+◌, ◌<◌, ◌==◌, Bool, if◌then◌else◌, Option, List, [], ◌++◌, ◌∷◌, true, false, Some, None}
+use Rattle.cd_turn.specs.declared.view.View.{View}
+use Rattle.cd_turn.specs.Rule.{Has, Joined, drawn_of, new_view}
+
+module _ {K E : Type 0} where
+  -- a view tells of an actor: its own, a child or one that it joined
+  abbrev pub TellsOf : View K E → ℕ → Type 0
+  TellsOf v a = (v.actor ≡ a) ⊎ (Has v.children a ⊎ Joined v a)
+
+  -- a number above each actor of whom a view tells
+  abbrev pub IsNew : View K E → ℕ → Type 0
+  IsNew v n = (a : ℕ) → TellsOf v a → a < n
+
+-- the actor that was drawn
+abbrev pub number_of : Option ℕ → ℕ
+number_of None = 0
+number_of (Some n) = n
+
+-- splitting: what is left of the old view, and the new one
+module _ {K E : Type 0} where
+  abbrev pub parted : View K E → View K E
+  parted v = record v {
+    fresh = None;
+    children = v.children ++ drawn_of v.fresh;
+    unjoined = v.unjoined ++ drawn_of v.fresh;
+  }
+
+  abbrev pub child_of : View K E → View K E
+  child_of v = new_view v.fixed (number_of v.fresh) v.actor v.seen
+
+  -- the old pass has one child more, and the new one has seen as much and done nothing
+  pub record SplitsOff (v w z : View K E) : Type 0 where
+    pub fixed : (w.fixed ≡ v.fixed) × (z.fixed ≡ v.fixed)
+    pub actor : (w.actor ≡ v.actor) × (w.parent ≡ v.parent) × (z.parent ≡ v.actor)
+    pub seen : (w.seen ≡ v.seen) × (z.seen ≡ v.seen)
+    pub mine : (w.mine ≡ v.mine) × (z.mine ≡ [])
+    pub children : (w.children ≡ v.children ++ z.actor ∷ []) × (z.children ≡ [])
+    pub unjoined : (w.unjoined ≡ v.unjoined ++ z.actor ∷ []) × (z.unjoined ≡ [])
+    pub joined : (w.joined ≡ v.joined) × (z.joined ≡ [])
+    pub over : (w.over ≡ v.over) × (z.over ≡ None)
+
+-- joining: the longer of two lists, and a list without one number
+module _ {A : Type 0} where
+  abbrev pub is_shorter : List A → List A → Bool
+  is_shorter [] [] = false
+  is_shorter [] (y ∷ ys) = true
+  is_shorter (x ∷ xs) [] = false
+  is_shorter (x ∷ xs) (y ∷ ys) = is_shorter xs ys
+
+  abbrev pub longer : List A → List A → List A
+  longer xs ys = if is_shorter xs ys then ys else xs
+
+abbrev pub without : ℕ → List ℕ → List ℕ
+without a [] = []
+without a (x ∷ xs) = if x == a then xs else x ∷ without a xs
+
+-- the word that was found used up, by the one or else by the other
+abbrev pub over_or : Option ℕ → Option ℕ → Option ℕ
+over_or None o = o
+over_or (Some a) o = Some a
+
+-- the view of a pass that took in another
+abbrev pub merged_view : {K E : Type 0} → View K E → View K E → View K E
+merged_view v w = record v {
+  seen = longer v.seen w.seen;
+  unjoined = without w.actor v.unjoined;
+  merged = v.merged + 1;
+  joined = v.joined ++ (w.actor, w.mine) ∷ w.joined;
+  beginnings = v.seen ∷ w.seen ∷ [];
+  over = over_or v.over w.over;
+}
