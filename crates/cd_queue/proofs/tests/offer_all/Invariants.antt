@@ -1,0 +1,16 @@
+-- what was told and what is told of the rest is what is told of all; so with what waits
+use Rattle.std.proofs.Common.{◌≡◌, ◌++◌, length, drop}
+use Rattle.cd_queue.specs.Drops.{after_offers, fates_of}
+use Rattle.cd_queue.proofs.tests.offer_all.Given as goal
+
+abbrev pub invariant-loop-word : goal.invariant-loop-word
+invariant-loop-word l =
+    let start = l.initial.queue in
+    let rest = fates_of l.queue.limits (length l.queue.lists) (drop l.word-index l.words) in
+    record {
+      limits : l.queue.limits ≡ start.limits;
+      fates : l.fates.items ++ rest ≡ fates_of start.limits (length start.lists) l.words;
+      lists : after_offers l.queue.lists l.lists.items rest
+          ≡ after_offers start.lists l.initial.lists.items (fates_of start.limits (length start.lists) l.words);
+      left : length l.lists.items ≡ length (drop l.word-index l.words);
+    }
