@@ -22,8 +22,8 @@ use Rattle.cd_transcript.specs.Transcripts.{Said, of_lines}
 use Rattle.cd_transcript.specs.LineRuns.{OnShelf, Opens, none, plug_in, registers, returned, nothing, ServesLines, closed, IsLineRun}
 use Rattle.cd_transcript.proofs.Events.{closed-of_lines}
 use Rattle.cd_transcript.proofs.Determined.{one_history}
-use Rattle.cd_serve.specs.Standing.{Standing, registration_of, AreOf, Writes, RunsOn}
-use Rattle.cd_serve.specs.Runs.{IsRun}
+use Rattle.cd_serve.specs.Working.Standing.{Standing, registration_of, AreOf, Writes, RunsOn}
+use Rattle.cd_serve.specs.Promises.{IsRun}
 use Rattle.cd_serve.proofs.Steps.{works_on, same_number, live-is, all_handled}
 use Rattle.cd_serve.proofs.Shelves.{returned-same, bytes_same}
 

@@ -34,7 +34,7 @@ use Rattle.cd_transcript.specs.Transcripts.{Said, IsTranscript, of_lines, found_
 use Rattle.cd_transcript.specs.LineRuns.{ServesLines, Works, IsAsked, nothing, blank, refused, put, got, listed, one_more}
 use Rattle.cd_transcript.proofs.Events.{written_more, blank_writes, refused_writes, put_writes, got_writes, listed_writes}
 use Rattle.cd_daemon.specs.declared.TheConstants.{INTERVAL}
-use Rattle.cd_serve.specs.Progress.{says, Seen, opening_of, HasServed, IsWorking, with_moment, Puts, Obeys, Serves}
+use Rattle.cd_serve.specs.Working.Progress.{says, Seen, opening_of, HasServed, IsWorking, with_moment, Puts, Obeys, Serves}
 use Rattle.cd_serve.proofs.Gifts.{gave_moment, gave_words}
 use Rattle.cd_serve.proofs.Steps.{accepted_ok, works_on}
 use Rattle.cd_serve.proofs.Shelves.{run_accepts, run_asks}

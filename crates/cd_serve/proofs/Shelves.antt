@@ -22,7 +22,7 @@ use Rattle.cd_daemon.specs.Handling.{stored}
 use Rattle.cd_daemon.specs.Calls.{calls_to, answered, answered_as, answered_calls}
 use Rattle.cd_daemon.specs.Answers.{accept_answer, handle_answer, query_answer}
 use Rattle.cd_transcript.specs.LineRuns.{OnShelf, returned}
-use Rattle.cd_serve.specs.Standing.{Standing, IsWriter, registration_of, RunsOn, called_first}
+use Rattle.cd_serve.specs.Working.Standing.{Standing, IsWriter, registration_of, RunsOn, called_first}
 use Rattle.cd_serve.proofs.Steps.{accepts, asks, handles_unwritten, handles_written, after_done, calls_to-after_done, same_number, live-is, calls_to-unwritten}
 
 pub bytes_same : (xs : List ℕ) → bytes_eq xs xs ≡ true

@@ -24,7 +24,7 @@ use Rattle.cd_daemon.specs.Calls.{cache_after}
 use Rattle.cd_daemon.specs.Calls.{calls_to, pending, sent_to}
 use Rattle.cd_daemon.specs.Answers.{accept_answer, handle_answer, query_answer, ready, is_ready, next_call, is_idle}
 use Rattle.cd_transcript.specs.LineRuns.{Works, called, handled, WorksUntilIdle, IsAsked}
-use Rattle.cd_serve.specs.Standing.{Standing, IsWriter}
+use Rattle.cd_serve.specs.Working.Standing.{Standing, IsWriter}
 
 -- ---- lists
 

@@ -15,9 +15,9 @@ use Rattle.cd_history.specs.Registrations.{Registration}
 use Rattle.cd_daemon.specs.Answers.{handle_answer}
 use Rattle.cd_daemon.specs.Handling.{stored}
 use Rattle.cd_transcript.specs.LineRuns.{OnShelf, returned, handled}
-use Rattle.cd_serve.specs.Standing.{Standing, IsWriter, registration_of, AreOf, Writes, RunsOn, called_first}
+use Rattle.cd_serve.specs.Working.Standing.{Standing, IsWriter, registration_of, AreOf, Writes, RunsOn, called_first}
 use Rattle.cd_serve.specs.Tells.{Gave}
-use Rattle.cd_serve.specs.Progress.{Seen, opening_of, IsWorking, with_moment, with_list, with_answer, with_word, WasCalled, Rolled}
+use Rattle.cd_serve.specs.Working.Progress.{Seen, opening_of, IsWorking, with_moment, with_list, with_answer, with_word, WasCalled, Rolled}
 use Rattle.cd_serve.proofs.Gifts.{gave_moment, gave_answer, one_more_word}
 use Rattle.cd_serve.proofs.Steps.{none_ready, one_queued, works_written, after_done}
 use Rattle.cd_serve.proofs.Shelves.{run_handles_unwritten, run_handles_written}

@@ -1,5 +1,9 @@
--- The exit status and the message of each end of a run.
-use Rattle.std.specs.Prelude.{ℕ, List, [], ◌++◌, codes}
+-- How a run ends, and the exit status and the message of each end.
+use Rattle.std.specs.Prelude.{ℕ, List, [], ◌++◌, codes, Result, Ok, Err}
+use Rattle.cd_dialogue.specs.declared.ends.DialogueFault.{DialogueFault}
+use Rattle.cd_dialogue.specs.declared.ends.DialogueFault.TheVariants as faults
+use Rattle.cd_dialogue.specs.declared.ends.InputEnd.{InputEnd}
+use Rattle.cd_dialogue.specs.declared.ends.InputEnd.TheVariants as input
 use Rattle.cd_serve.specs.declared.end.End.{End}
 use Rattle.cd_serve.specs.declared.end.End.TheVariants as ends
 
@@ -20,3 +24,10 @@ message_of ends.Usage = message (codes "usage: collectd [-f] [-C file] [-t, -T, 
 message_of ends.LinkFault = message (codes "link failed")
 message_of ends.InputTooLong = message (codes "input too long")
 message_of ends.Memory = message (codes "out of memory")
+
+-- the end of a run whose input was served so
+abbrev pub end_of : Result InputEnd DialogueFault → End
+end_of (Ok input.Ended) = ends.Done
+end_of (Ok input.TooLong) = ends.InputTooLong
+end_of (Err faults.Link) = ends.LinkFault
+end_of (Err faults.Memory) = ends.Memory

@@ -1,7 +1,5 @@
-pub mod Standing
+pub mod Promises
+pub mod Ends
 pub mod Shelf
 pub mod Tells
-pub mod Progress
-pub mod Sessions
-pub mod Ends
-pub mod Runs
+pub mod Working

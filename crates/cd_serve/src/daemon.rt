@@ -1,21 +1,22 @@
-// The daemon of a run on one thread.
+//! The daemon of a run on one thread.
 ghost use Rattle.std.specs.Prelude.{◌≡◌, false, [], ◌∷◌, ℕ, List, map, IfOk, IfSome, OnOk, Some};
 ghost use Rattle.cd_registry.specs.Told.{told_after};
 ghost use Rattle.cd_value.specs.declared.data.ValueList.{ValueList};
 ghost use Rattle.cd_history.specs.declared.given.Given.{Given};
 ghost use Rattle.cd_history.specs.History.{History};
 ghost use Rattle.cd_cache.specs.Cache.{cached};
-ghost use Rattle.cd_sock.specs.Faults as faults;
+ghost use Rattle.cd_sock.specs.Faults.{line_fault};
 ghost use Rattle.cd_sock.specs.Lines.{content};
 ghost use Rattle.cd_sock.specs.Meaning.{is_blank_line};
 ghost use Rattle.cd_daemon.specs.Answers.{found_in, source_names};
 ghost use Rattle.cd_transcript.specs.Transcripts.{found_reply};
-ghost use Rattle.cd_serve.specs.Shelf.{on_shelf, places, shown};
-ghost use Rattle.cd_serve.specs.Progress.{IsWorking, Seen, opening_of, seen_of, with_moment, with_word, with_list, Rolled, WasCalled, Puts, Obeys, Serves};
+ghost use Rattle.cd_serve.specs.Shelf.{shown};
+ghost use Rattle.cd_serve.specs.Working.Progress.{IsWorking, Seen, opening_of, seen_of, with_moment, with_word, with_list, Rolled, WasCalled, Puts, Obeys, Serves, IsServed, KeepsPlaces};
 
 use crate::shelf::ShelvedOf;
 use cd_cache::{Cache, CacheEntry};
 use cd_daemon::INTERVAL;
+use cd_dialogue::Server;
 use cd_history::{Given, Givens};
 use cd_io::{Clock, Dice};
 use cd_registry::{Answer, Call, Plug};
@@ -44,7 +45,7 @@ impl<C: Clock, D: Dice, P: Plug> Daemon<C, D, P> {
             (IfSome (C.clock_pair self.old.clock) (λ pair. now ≡ pair.0))
             × (seen_of C.clock_pair D.dice_pair P.plug_tells self.new
             ≡ with_moment now (seen_of C.clock_pair D.dice_pair P.plug_tells self.old))) }
-        ensures back { places (on_shelf P.plug_tells self.new.plugs.items) ≡ places (on_shelf P.plug_tells self.old.plugs.items) }
+        ensures back { KeepsPlaces P.plug_tells self.old self.new }
     {
         let now = self.clock.now();
         self.given.push(Given::Now(now))?;
@@ -57,7 +58,7 @@ impl<C: Clock, D: Dice, P: Plug> Daemon<C, D, P> {
             × (IfSome (D.dice_pair self.old.dice) (λ pair. word ≡ pair.0))
             × (seen_of C.clock_pair D.dice_pair P.plug_tells self.new
             ≡ with_word word (seen_of C.clock_pair D.dice_pair P.plug_tells self.old))) }
-        ensures back { places (on_shelf P.plug_tells self.new.plugs.items) ≡ places (on_shelf P.plug_tells self.old.plugs.items) }
+        ensures back { KeepsPlaces P.plug_tells self.old self.new }
     {
         let word = self.dice.word();
         self.given.push(Given::Word(word))?;
@@ -69,7 +70,7 @@ impl<C: Clock, D: Dice, P: Plug> Daemon<C, D, P> {
         ensures ok { OnOk result (Rolled count
             (seen_of C.clock_pair D.dice_pair P.plug_tells self.old)
             (seen_of C.clock_pair D.dice_pair P.plug_tells self.new)) }
-        ensures back { places (on_shelf P.plug_tells self.new.plugs.items) ≡ places (on_shelf P.plug_tells self.old.plugs.items) }
+        ensures back { KeepsPlaces P.plug_tells self.old self.new }
     {
         for _ in 0..count {
             self.word()?;
@@ -81,7 +82,7 @@ impl<C: Clock, D: Dice, P: Plug> Daemon<C, D, P> {
     fn store(&mut self, alloc: Global, list: &ValueList, now: u64) -> Result<(), Memory>
         ensures ok { OnOk result (seen_of C.clock_pair D.dice_pair P.plug_tells self.new
             ≡ with_list list.now now (seen_of C.clock_pair D.dice_pair P.plug_tells self.old)) }
-        ensures back { places (on_shelf P.plug_tells self.new.plugs.items) ≡ places (on_shelf P.plug_tells self.old.plugs.items) }
+        ensures back { KeepsPlaces P.plug_tells self.old self.new }
     {
         match self.types.get(list.id.type_name.as_str()) {
             Some(set) => {
@@ -97,7 +98,7 @@ impl<C: Clock, D: Dice, P: Plug> Daemon<C, D, P> {
         ensures ok { OnOk result (WasCalled call.now
             (seen_of C.clock_pair D.dice_pair P.plug_tells self.old)
             (seen_of C.clock_pair D.dice_pair P.plug_tells self.new)) }
-        ensures back { places (on_shelf P.plug_tells self.new.plugs.items) ≡ places (on_shelf P.plug_tells self.old.plugs.items) }
+        ensures back { KeepsPlaces P.plug_tells self.old self.new }
     {
         if self.plugs.is_empty() {
             return Ok(());
@@ -112,7 +113,7 @@ impl<C: Clock, D: Dice, P: Plug> Daemon<C, D, P> {
         ensures ok { OnOk result ((begun : Seen) (start : History) (before : List Given) (queue : List ValueList)
             → IsWorking begun start before (list ∷ queue) (seen_of C.clock_pair D.dice_pair P.plug_tells self.old)
             → IsWorking begun start before queue (seen_of C.clock_pair D.dice_pair P.plug_tells self.new)) }
-        ensures back { places (on_shelf P.plug_tells self.new.plugs.items) ≡ places (on_shelf P.plug_tells self.old.plugs.items) }
+        ensures back { KeepsPlaces P.plug_tells self.old self.new }
     {
         let now = self.moment()?;
         self.store(alloc, &list, now)?;
@@ -128,7 +129,7 @@ impl<C: Clock, D: Dice, P: Plug> Daemon<C, D, P> {
         ensures ok { OnOk result ((begun : Seen) (start : History) (before : List Given)
             → IsWorking begun start before lists (seen_of C.clock_pair D.dice_pair P.plug_tells self.old)
             → IsWorking begun start before [] (seen_of C.clock_pair D.dice_pair P.plug_tells self.new)) }
-        ensures back { places (on_shelf P.plug_tells self.new.plugs.items) ≡ places (on_shelf P.plug_tells self.old.plugs.items) }
+        ensures back { KeepsPlaces P.plug_tells self.old self.new }
     {
         for list in lists.into_vec() {
             self.handle(alloc, list)?;
@@ -141,7 +142,7 @@ impl<C: Clock, D: Dice, P: Plug> Daemon<C, D, P> {
         ensures ok { OnOk result (Puts lists
             (seen_of C.clock_pair D.dice_pair P.plug_tells self.old)
             (seen_of C.clock_pair D.dice_pair P.plug_tells self.new)) }
-        ensures back { places (on_shelf P.plug_tells self.new.plugs.items) ≡ places (on_shelf P.plug_tells self.old.plugs.items) }
+        ensures back { KeepsPlaces P.plug_tells self.old self.new }
     {
         self.roll(lists.len())?;
         self.work(alloc, lists)
@@ -168,7 +169,7 @@ impl<C: Clock, D: Dice, P: Plug> Daemon<C, D, P> {
         ensures ok { IfOk result (λ reply. Obeys command reply
             (seen_of C.clock_pair D.dice_pair P.plug_tells self.old)
             (seen_of C.clock_pair D.dice_pair P.plug_tells self.new)) }
-        ensures back { places (on_shelf P.plug_tells self.new.plugs.items) ≡ places (on_shelf P.plug_tells self.old.plugs.items) }
+        ensures back { KeepsPlaces P.plug_tells self.old self.new }
     {
         match command {
             Command::Blank => Ok(Reply::Success),
@@ -193,7 +194,7 @@ impl<C: Clock, D: Dice, P: Plug> Daemon<C, D, P> {
         ensures ok { IfOk result (λ reply. Serves (Some line.now) reply
             (seen_of C.clock_pair D.dice_pair P.plug_tells self.old)
             (seen_of C.clock_pair D.dice_pair P.plug_tells self.new)) }
-        ensures back { places (on_shelf P.plug_tells self.new.plugs.items) ≡ places (on_shelf P.plug_tells self.old.plugs.items) }
+        ensures back { KeepsPlaces P.plug_tells self.old self.new }
     {
         let now = self.moment()?;
         match Command::read(alloc, line, &self.types, now, INTERVAL) {
@@ -213,19 +214,22 @@ impl<C: Clock, D: Dice, P: Plug> Daemon<C, D, P> {
         ensures ok { IfOk result (λ reply. Serves None reply
             (seen_of C.clock_pair D.dice_pair P.plug_tells self.old)
             (seen_of C.clock_pair D.dice_pair P.plug_tells self.new)) }
-        ensures back { places (on_shelf P.plug_tells self.new.plugs.items) ≡ places (on_shelf P.plug_tells self.old.plugs.items) }
+        ensures back { KeepsPlaces P.plug_tells self.old self.new }
     {
         self.moment()?;
         print_reply(alloc, &Reply::Fault(LineFault::LineTooLong))
     }
+}
 
-    /// Serves a line, and gives its reply with its newlines; a blank line has an empty one.
-    pub fn serve(&mut self, alloc: Global, line: &Line) -> Result<Text, Memory>
-        ensures ok { IfOk result (λ reply. Serves (content line.now) reply
-            (seen_of C.clock_pair D.dice_pair P.plug_tells self.old)
-            (seen_of C.clock_pair D.dice_pair P.plug_tells self.new)) }
-        ensures back { places (on_shelf P.plug_tells self.new.plugs.items) ≡ places (on_shelf P.plug_tells self.old.plugs.items) }
-    {
+impl<C: Clock, D: Dice, P: Plug> Server for Daemon<C, D, P> {
+    ghost serves_line = { λ line reply old new.
+        IsServed line reply
+        (seen_of C.clock_pair D.dice_pair P.plug_tells old)
+        (seen_of C.clock_pair D.dice_pair P.plug_tells new) };
+
+    ghost gives_up = { λ old new. KeepsPlaces P.plug_tells old new };
+
+    fn serve(&mut self, alloc: Global, line: &Line) -> Result<Text, Memory> {
         match line {
             Line::TooLong => self.refuse(alloc),
             Line::Whole(bytes) => {
@@ -249,7 +253,7 @@ fn enter<P: Plug>(plug: &mut ShelvedOf<P>, call: &Call) -> Answer
 
 /// The reply to a line with a fault; want of memory is none.
 fn refusal(fault: LineFault) -> Result<Reply, Memory>
-    ensures { IfOk result (λ reply. (reply ≡ Reply.Fault fault) × (faults.fault fault ≡ Some fault)) }
+    ensures { IfOk result (λ reply. (reply ≡ Reply.Fault fault) × (line_fault fault ≡ Some fault)) }
 {
     match fault {
         LineFault::Memory => Err(Memory),

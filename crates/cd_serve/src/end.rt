@@ -1,7 +1,8 @@
-// How a run ends.
+//! How a run ends.
 ghost use Rattle.std.specs.Prelude.{◌≡◌, IfOk};
-ghost use Rattle.cd_serve.specs.Ends.{status_of, message_of};
+ghost use Rattle.cd_serve.specs.Ends.{end_of, message_of, status_of};
 
+use cd_dialogue::{DialogueFault, InputEnd};
 use cd_value::{Memory, Text};
 use std::alloc::Global;
 
@@ -14,7 +15,7 @@ pub enum End {
     Usage,
     /// The link failed: its count of faults rose.
     LinkFault,
-    /// 67,108,864 bytes were taken, and more came.
+    /// As many bytes were taken as may be, and more came.
     InputTooLong,
     /// Memory was lacking.
     Memory,
@@ -46,5 +47,17 @@ pub fn text_of(alloc: Global, end: &End) -> Result<Text, Memory>
         End::LinkFault => Text::of(alloc, "collectd: link failed\n"),
         End::InputTooLong => Text::of(alloc, "collectd: input too long\n"),
         End::Memory => Text::of(alloc, "collectd: out of memory\n"),
+    }
+}
+
+/// The end of a run whose input was served so.
+pub(crate) fn end_of(served: Result<InputEnd, DialogueFault>) -> End
+    ensures { result ≡ end_of served }
+{
+    match served {
+        Ok(InputEnd::Ended) => End::Done,
+        Ok(InputEnd::TooLong) => End::InputTooLong,
+        Err(DialogueFault::Link) => End::LinkFault,
+        Err(DialogueFault::Memory) => End::Memory,
     }
 }

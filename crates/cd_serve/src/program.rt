@@ -1,17 +1,18 @@
-// The run of the daemon on one thread.
+//! The run of the daemon on one thread.
 ghost use Rattle.std.specs.Prelude.{◌≡◌, ◌≤◌, ◌⊎◌, ◌↔◌, true, false, IfOk, IfErr, length, map, string_bytes};
 ghost use Rattle.cd_io.specs.Causes.{Rose};
+ghost use Rattle.cd_io.specs.Link.{LinkTells};
 ghost use Rattle.cd_daemon.specs.Answers.{is_reserved};
+ghost use Rattle.cd_serve.specs.Promises.{IsWithin, Promises, is_lines};
 ghost use Rattle.cd_serve.specs.Shelf.{on_shelf, places};
-ghost use Rattle.cd_serve.specs.Progress.{seen_of};
-ghost use Rattle.cd_serve.specs.Sessions.{link_tells};
-ghost use Rattle.cd_serve.specs.Runs.{IsWithin, Promises, is_lines, opened, writes_first};
+ghost use Rattle.cd_serve.specs.Working.Progress.{opened, seen_of, writes_first};
 
 use crate::daemon::Daemon;
-use crate::stream::serve_input;
+use crate::end::end_of;
 use crate::{End, Shelved, ShelvedOf, ShelvedProbe, ShelvedProbeOf};
 use cd_cache::Cache;
 use cd_daemon::TIMEOUT;
+use cd_dialogue::serve_all;
 use cd_history::Givens;
 use cd_io::{Clock, Dice, Link, World};
 use cd_registry::{Kinds, Plug, Probe};
@@ -19,6 +20,9 @@ use cd_types::TypesDb;
 use cd_value::{Sequence, Text};
 use std::alloc::Global;
 use std::marker::Send;
+
+/// The most bytes of its input that a run takes.
+pub const INPUT_LIMIT: usize = 67_108_864;
 
 /// What a run gives back: how it ended, what the clock, the dice and the plug-ins gave, in order, and the objects, each
 /// in its place.
@@ -72,7 +76,8 @@ where
     D: Dice,
     requires few { length shelf.items ≤ 1 }
     ensures ok { IfOk result (λ daemon. seen_of C.clock_pair D.dice_pair P.plug_tells daemon
-        ≡ opened (on_shelf P.plug_tells shelf.items) (record { clock = C.clock_pair clock; dice = D.dice_pair dice })) }
+        ≡ opened (on_shelf P.plug_tells shelf.items)
+        (record { clock = C.clock_pair clock; dice = D.dice_pair dice })) }
     ensures err { IfErr result (λ back. back.items ≡ shelf.items) }
 {
     let writer = writes_first(shelf.as_slice());
@@ -101,21 +106,18 @@ pub fn run_of<W: World, L: Link, P: Plug, Q: Drop>(
 ) -> RanOf<P, Q>
     requires few { length shelf.items ≤ 1 }
     ensures promises { Promises
-        (on_shelf P.plug_tells shelf.items)
-        (on_shelf P.plug_tells result.plugs.items)
+        (on_shelf P.plug_tells shelf.items) (on_shelf P.plug_tells result.plugs.items)
         result.given
         (record { clock = W.world_clock_pair world.old; dice = W.world_dice_pair world.old })
-        (link_tells L.link_given L.link_left L.link_said L.link_faults L.link_quiets input.old)
-        (link_tells L.link_given L.link_left L.link_said L.link_faults L.link_quiets input.new)
+        (L.link_tells input.old) (L.link_tells input.new)
         result.end }
     ensures usage { result.end ≡ End.Usage ↔ is_lines (map string_bytes words.now) ≡ false }
     ensures complete { is_lines (map string_bytes words.now) ≡ true
-        → (Rose (L.link_faults input.old) (L.link_faults input.new) → ⊥)
-        → IsWithin
-        (link_tells L.link_given L.link_left L.link_said L.link_faults L.link_quiets input.old)
-        (link_tells L.link_given L.link_left L.link_said L.link_faults L.link_quiets input.new)
+        → (Rose (L.link_tells input.old).faults (L.link_tells input.new).faults → ⊥)
+        → IsWithin (L.link_tells input.old) (L.link_tells input.new)
         → (result.end ≡ End.Done) ⊎ (result.end ≡ End.Memory) }
-    ensures back { places (on_shelf P.plug_tells result.plugs.items) ≡ places (on_shelf P.plug_tells shelf.items) }
+    ensures back { places (on_shelf P.plug_tells result.plugs.items)
+        ≡ places (on_shelf P.plug_tells shelf.items) }
     ensures probes { result.probes.items ≡ probes.items }
 {
     if !is_lines(words) {
@@ -130,9 +132,9 @@ pub fn run_of<W: World, L: Link, P: Plug, Q: Drop>(
     let dice = world.dice();
     match begin(alloc, clock, dice, shelf) {
         Ok(mut daemon) => {
-            let end = serve_input(alloc, input, &mut daemon);
+            let served = serve_all(alloc, input, &mut daemon, INPUT_LIMIT);
             RanOf {
-                end,
+                end: end_of(served),
                 given: daemon.given,
                 plugs: daemon.plugs,
                 probes,
@@ -153,7 +155,7 @@ pub fn run_of<W: World, L: Link, P: Plug, Q: Drop>(
 /// counts as the end of the input.
 ///
 /// It ends with `Usage` at other words, with `LinkFault` where the input failed, with `InputTooLong` where more than
-/// 67,108,864 bytes came, and with `Memory` where memory was lacking.
+/// `INPUT_LIMIT` bytes came, and with `Memory` where memory was lacking.
 pub fn run<W: World, L: Link>(
     alloc: Global,
     words: &[String],
@@ -168,15 +170,12 @@ pub fn run<W: World, L: Link>(
         (on_shelf ⟦<Box<dyn Plug + Send> as Plug>⟧.plug_tells result.plugs.items)
         result.given
         (record { clock = W.world_clock_pair world.old; dice = W.world_dice_pair world.old })
-        (link_tells L.link_given L.link_left L.link_said L.link_faults L.link_quiets input.old)
-        (link_tells L.link_given L.link_left L.link_said L.link_faults L.link_quiets input.new)
+        (L.link_tells input.old) (L.link_tells input.new)
         result.end }
     ensures usage { result.end ≡ End.Usage ↔ is_lines (map string_bytes words.now) ≡ false }
     ensures complete { is_lines (map string_bytes words.now) ≡ true
-        → (Rose (L.link_faults input.old) (L.link_faults input.new) → ⊥)
-        → IsWithin
-        (link_tells L.link_given L.link_left L.link_said L.link_faults L.link_quiets input.old)
-        (link_tells L.link_given L.link_left L.link_said L.link_faults L.link_quiets input.new)
+        → (Rose (L.link_tells input.old).faults (L.link_tells input.new).faults → ⊥)
+        → IsWithin (L.link_tells input.old) (L.link_tells input.new)
         → (result.end ≡ End.Done) ⊎ (result.end ≡ End.Memory) }
     ensures back { places (on_shelf ⟦<Box<dyn Plug + Send> as Plug>⟧.plug_tells result.plugs.items)
         ≡ places (on_shelf ⟦<Box<dyn Plug + Send> as Plug>⟧.plug_tells shelf.items) }

@@ -1,4 +1,4 @@
-// What is handed to a run.
+//! What is handed to a run.
 use cd_registry::{Kinds, Plug, Probe};
 use cd_value::Text;
 use std::marker::Send;

@@ -7,6 +7,9 @@ use Rattle.cd_value.specs.Identifier.{Fields, name_of}
 use Rattle.cd_sock.specs.declared.command.Command.{Command}
 use Rattle.cd_sock.specs.declared.command.Command.TheVariants as command
 use Rattle.cd_sock.specs.declared.fault.LineFault.{LineFault}
+use Rattle.cd_sock.specs.declared.fault.LineFault.TheVariants.{LineTooLong}
+use Rattle.cd_sock.specs.Lines.{Cut}
+use Rattle.cd_sock.specs.Meaning.{meaning}
 use Rattle.cd_sock.specs.declared.reply.Reply.{Reply}
 use Rattle.cd_sock.specs.declared.reply.Reply.TheVariants as reply
 use Rattle.cd_sock.specs.Replies.{reply_text}
@@ -16,10 +19,17 @@ use Rattle.cd_history.specs.declared.entry.Found.TheVariants as found
 use Rattle.cd_history.specs.declared.entry.Stopping.{Stopping}
 use Rattle.cd_history.specs.History.{Event, History}
 use Rattle.cd_history.specs.Order.{history_of}
+use Rattle.cd_daemon.specs.declared.Opening.{Opening}
+use Rattle.cd_daemon.specs.declared.TheConstants.{INTERVAL}
 
 -- what a line says: a command, or why it is refused
 abbrev pub Said : Type 0
 Said = Result Command LineFault
+
+-- what a line of the socket says at a moment to a daemon of that opening; one that is too long says just that
+abbrev pub line_says : Opening → Cut → ℕ → Said
+line_says K None now = Err LineTooLong
+line_says K (Some line) now = meaning K.types now INTERVAL line
 
 -- the events that lines ask for
 abbrev pub is_of_a_line : Event → Bool

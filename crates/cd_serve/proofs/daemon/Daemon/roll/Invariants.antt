@@ -1,6 +1,6 @@
 use Rattle.std.proofs.Common.{◌≡◌}
 use Rattle.cd_serve.specs.Shelf.{on_shelf, places}
-use Rattle.cd_serve.specs.Progress.{seen_of, Rolled}
+use Rattle.cd_serve.specs.Working.Progress.{seen_of, Rolled}
 use Rattle.cd_serve.proofs.daemon.Daemon.roll.Given as goal
 
 abbrev pub invariant-loop : goal.invariant-loop

@@ -1,5 +1,5 @@
 -- How far a run over lines has come.
-use Rattle.std.specs.Prelude.{◌≡◌, ◌⊎◌, ℕ, Bool, List, [], ◌∷◌, ◌++◌, length, map, Option, None, Some, Err}
+use Rattle.std.specs.Prelude.{◌≡◌, ◌⊎◌, ◌&&◌, not, ℕ, Bool, false, List, [], ◌∷◌, ◌++◌, length, map, Option, None, Some, Err}
 use Rattle.cd_value.specs.declared.data.DataSet.{DataSet}
 use Rattle.cd_value.specs.declared.data.ValueList.{ValueList}
 use Rattle.cd_cache.specs.declared.entry.CacheEntry.{CacheEntry}
@@ -12,7 +12,7 @@ use Rattle.cd_sock.specs.Lines.{Cut}
 use Rattle.cd_cache.specs.Cache.{cached}
 use Rattle.cd_cache.specs.Rows.{rows_of}
 use Rattle.cd_value.specs.Identifier.{name_of}
-use Rattle.cd_daemon.specs.Answers.{found_in}
+use Rattle.cd_daemon.specs.Answers.{found_in, is_reserved}
 use Rattle.cd_sock.specs.Meaning.{meaning}
 use Rattle.std.specs.Option.{option_map}
 use Rattle.cd_io.specs.Told.{clock_after, dice_after}
@@ -21,21 +21,19 @@ use Rattle.cd_registry.specs.declared.calls.Answer.{Answer}
 use Rattle.cd_registry.specs.declared.calls.Call.{Call}
 use Rattle.cd_daemon.specs.Handling.{stored}
 use Rattle.cd_serve.specs.declared.daemon.Daemon.{Daemon}
-use Rattle.cd_serve.specs.Shelf.{on_shelf}
+use Rattle.cd_serve.specs.Shelf.{on_shelf, places}
+use Rattle.cd_registry.specs.declared.kinds.TheConstants.Kinds.{WRITE}
+use Rattle.cd_history.specs.Registrations.{has_kind}
+use Rattle.cd_types.specs.Types.{builtin}
 use Rattle.cd_history.specs.declared.given.Given.{Given}
 use Rattle.cd_history.specs.declared.given.Given.TheVariants.{Now, Word, Answered}
 use Rattle.cd_history.specs.History.{History}
 use Rattle.cd_daemon.specs.declared.Opening.{Opening}
 use Rattle.cd_daemon.specs.declared.TheConstants.{INTERVAL}
-use Rattle.cd_transcript.specs.Transcripts.{Said, IsTranscript, of_lines, found_reply}
+use Rattle.cd_transcript.specs.Transcripts.{line_says, IsTranscript, of_lines, found_reply}
 use Rattle.cd_transcript.specs.LineRuns.{OnShelf, Opens, Works, IsAsked, ServesLines}
-use Rattle.cd_serve.specs.Standing.{RunsOn, called_first}
+use Rattle.cd_serve.specs.Working.Standing.{RunsOn, called_first, registration_of}
 use Rattle.cd_serve.specs.Tells.{Pairs, Gave, GaveAll}
-
--- what a line says at a moment; of one that is too long nothing is kept
-abbrev pub says : List DataSet → Cut → ℕ → Said
-says types None now = Err LineTooLong
-says types (Some line) now = meaning types now INTERVAL line
 
 -- what is seen of a daemon
 pub record Seen : Type 0 where
@@ -56,8 +54,8 @@ pub record HasServed (begun : Seen) (lines : List Cut) (text : List ℕ) (seen :
   pub types : seen.types ≡ begun.types
   pub runs : RunsOn (opening_of begun) begun.shelf seen.shelf seen.writer [] seen.cache past
   pub opens : Opens begun.shelf [] [] opened
-  pub serves : ServesLines (opening_of begun) (says begun.types) lines opened seen.given past
-  pub written : IsTranscript (says begun.types) lines (of_lines past) text
+  pub serves : ServesLines (opening_of begun) (line_says (opening_of begun)) lines opened seen.given past
+  pub written : IsTranscript (line_says (opening_of begun)) lines (of_lines past) text
   pub gave : GaveAll begun.pairs seen.pairs seen.given
 
 -- it works from a history on, and these lists are queued
@@ -127,6 +125,24 @@ Obeys (command.PutVal lists) reply old new = (reply ≡ replies.Success) × Puts
 Obeys (command.GetVal id) reply old new = (new ≡ old) × (reply ≡ found_reply (found_in (opening_of old) (cached (name_of id) old.cache)))
 Obeys command.ListVal reply old new = (new ≡ old) × (reply ≡ replies.Listed (rows_of old.cache))
 
--- a line was served, and has this reply
+-- a line was served with this reply
 abbrev pub Serves : Cut → List ℕ → Seen → Seen → Type 0
 Serves line reply old new = (begun : Seen) (lines : List Cut) (text : List ℕ) → HasServed begun lines text old → HasServed begun (lines ++ line ∷ []) (text ++ reply) new
+
+-- .. and all objects stand in their places
+pub record IsServed (line : Cut) (reply : List ℕ) (old new : Seen) : Type 0 where
+  pub serves : Serves line reply old new
+  pub back : places new.shelf ≡ places old.shelf
+
+-- all objects of the one daemon stand in the places of the other's
+abbrev pub KeepsPlaces : {C D P : Type 0} → (P → PlugTells) → Daemon C D P → Daemon C D P → Type 0
+KeepsPlaces tells old new = places (on_shelf tells new.plugs.items) ≡ places (on_shelf tells old.plugs.items)
+
+-- the first plug-in of a shelf is registered and called with lists
+abbrev pub writes_first : List OnShelf → Bool
+writes_first [] = false
+writes_first (plug ∷ plugs) = not (is_reserved plug.name) && has_kind WRITE (registration_of plug)
+
+-- a daemon before the first line
+abbrev pub opened : List OnShelf → Pairs → Seen
+opened shelf pairs = record { types = builtin; shelf = shelf; writer = writes_first shelf; cache = []; given = []; pairs = pairs }

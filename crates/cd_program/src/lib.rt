@@ -1,0 +1,13 @@
+//! The program `collectd`, as in collectd(1): what it hands to the run, what it writes on standard error, and its status.
+//!
+//! - Stands on `cd_serve`, `cd_registry` and `cd_io`, and takes no handle.
+//! - Read first `specs/Program.antt`.
+//! - Its one writer, `w`, keeps what it gets.
+//! - Programs with stored runs are `collectd_main`, `collectd_line` and `collectd_usage`; each only calls `start`.
+#![tactic(auto)]
+
+mod outcome;
+mod start;
+
+pub use outcome::{Outcome, serve_words};
+pub use start::start;

@@ -1,0 +1,83 @@
+-- What a run over lines promises. This is the public theorem: `run` and `run_of` cite what stands here, with what it cites,
+-- and nothing else.
+use Rattle.std.specs.Prelude.{◌≡◌, ◌≤◌, ◌&&◌, not, ℕ, Bool, false, Some, List, [], ◌∷◌, codes, length}
+use Rattle.std.specs.Str.{bytes_eq}
+use Rattle.cd_io.specs.Link.{LinkTells}
+use Rattle.cd_types.specs.Types.{builtin}
+use Rattle.cd_sock.specs.Lines.{Cut}
+use Rattle.cd_history.specs.declared.given.Given.{Given}
+use Rattle.cd_history.specs.History.{History, handles, kept}
+use Rattle.cd_daemon.specs.declared.Opening.{Opening}
+use Rattle.cd_daemon.specs.Legal.{IsLegal}
+use Rattle.cd_dialogue.specs.Dialogues.{ServedAll, Exceeded, LostLink, LackedMemory}
+use Rattle.cd_transcript.specs.Transcripts.{line_says, of_lines, IsTranscript}
+use Rattle.cd_transcript.specs.LineRuns.{OnShelf, Opens, ServesLines, returned, IsLineRun}
+use Rattle.cd_serve.specs.declared.end.End.{End}
+use Rattle.cd_serve.specs.declared.end.End.TheVariants as ends
+use Rattle.cd_serve.specs.declared.program.TheConstants.{INPUT_LIMIT}
+use Rattle.cd_serve.specs.Tells.{Pairs, GaveAll}
+
+-- the words of the command line are the program's name and `--lines`
+abbrev pub is_lines : List (List ℕ) → Bool
+is_lines [] = false
+is_lines (name ∷ []) = false
+is_lines (name ∷ (word ∷ [])) = bytes_eq word (codes "--lines")
+is_lines (name ∷ (word ∷ (next ∷ more))) = false
+
+-- without a configuration the four built-in types are known
+unfoldable pub opening : Opening
+opening = record { types = builtin }
+
+-- The history of a run over these lines: it is a one-thread daemon's, and the one that the shelf, the lines and what was
+-- given make, which make no other; every list that was kept was handled; and each plug-in of the shelf came back having
+-- got the calls of the registrations of its name.
+pub record IsRun (K : Opening) (shelf back : List OnShelf) (lines : List Cut) (given : List Given) (H : History) : Type 0 where
+  pub legal : IsLegal K H
+  pub made : IsLineRun K (line_says K) shelf lines given H
+  pub only : (other : History) → IsLineRun K (line_says K) shelf lines given other → other ≡ H
+  pub handled : handles H ≡ length (kept H)
+  pub told : back ≡ returned K H shelf
+
+-- These lines were served, in one history with this transcript; and the clock and the dice gave just what was given, in
+-- order.
+pub record HasRun (shelf back : List OnShelf) (given : List Given) (begun : Pairs) (lines : List Cut) (text : List ℕ) : Type 0 where
+  pub history : History
+  pub run : IsRun opening shelf back lines given history
+  pub transcript : IsTranscript (line_says opening) lines (of_lines history) text
+  pub last : Pairs
+  pub gave : GaveAll begun last given
+
+-- These lines were served before memory was lacking, in a history of a one-thread daemon with this transcript.
+pub record HasBegun (shelf : List OnShelf) (lines : List Cut) (text : List ℕ) : Type 0 where
+  pub opened : History
+  pub history : History
+  pub given_first : List Given
+  pub given_lines : List Given
+  pub opens : Opens shelf [] given_first opened
+  pub serves : ServesLines opening (line_says opening) lines opened given_lines history
+  pub legal : IsLegal opening history
+  pub transcript : IsTranscript (line_says opening) lines (of_lines history) text
+
+-- What a run promises at each end, by its shelf before and after, by what was given, by what clock and dice told at first, and
+-- by what the link tells before and after. `cd_dialogue` says which lines were served and what was said.
+module _ (shelf back : List OnShelf) (given : List Given) (begun : Pairs) (before after : LinkTells) where
+  -- nothing was done
+  pub record IsUntouched : Type 0 where
+    pub shelves : back ≡ shelf
+    pub none : given ≡ []
+    pub link : after ≡ before
+
+  abbrev pub Promises : End → Type 0
+  Promises ends.Done = ServedAll (HasRun shelf back given begun) INPUT_LIMIT before after
+  Promises ends.InputTooLong = Exceeded (HasRun shelf back given begun) INPUT_LIMIT before after
+  Promises ends.LinkFault = LostLink (HasRun shelf back given begun) INPUT_LIMIT before after
+  Promises ends.Usage = IsUntouched
+  Promises ends.Memory = LackedMemory (HasBegun shelf) INPUT_LIMIT before after
+
+-- the input has at most as many bytes as are taken, where it tells
+pub record IsWithin (before after : LinkTells) : Type 0 where
+  pub bytes : List ℕ
+  pub rest : List ℕ
+  pub had : before.left ≡ Some bytes
+  pub has : after.left ≡ Some rest
+  pub few : length bytes ≤ INPUT_LIMIT

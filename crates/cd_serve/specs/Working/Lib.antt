@@ -1,0 +1,3 @@
+-- How far a run has come: words of private contracts and of proofs. No public clause cites them.
+pub mod Standing
+pub mod Progress
