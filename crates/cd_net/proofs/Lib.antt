@@ -1,0 +1,4 @@
+pub mod Cleaned
+pub mod Decoding
+pub mod Fields
+pub mod Texts

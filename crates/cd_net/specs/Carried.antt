@@ -1,0 +1,42 @@
+-- The fields in force as they are carried forward.
+use Rattle.std.specs.Prelude.{ℕ, ◌==◌, ◌||◌, ◌&&◌, Bool, List, Option, if◌then◌else◌}
+use Rattle.cd_value.specs.Identifier.{is_control, is_slash}
+use Rattle.std.specs.Option.{option_copied}
+use Rattle.cd_net.specs.declared.carried.Carried.{Carried}
+use Rattle.cd_net.specs.declared.kinds.TheConstants.{HOST, PLUGIN, PLUGIN_INSTANCE, TYPE, TYPE_INSTANCE, TIME, INTERVAL, SEVERITY}
+use Rattle.cd_net.specs.Payload.{text_of, number_of}
+use Rattle.cd_net.specs.InForce.{InForce, is_time, is_interval, units_of}
+
+-- what carried fields say
+abbrev pub seen : Carried → InForce
+seen fields = record {
+  host = option_copied fields.host;
+  plugin = option_copied fields.plugin;
+  plugin_instance = option_copied fields.plugin_instance;
+  type_name = option_copied fields.type_name;
+  type_instance = option_copied fields.type_instance;
+  time = fields.time;
+  interval = fields.interval;
+  severity = fields.severity;
+}
+
+-- the text of a payload, if the part is of the field's kind, and else the text before
+abbrev pub text_or : ℕ → ℕ → List ℕ → Option (List ℕ) → Option (List ℕ)
+text_or own kind payload text = if kind == own then text_of payload else text
+
+-- the fields in force behind a part
+unfoldable pub with_field : ℕ → List ℕ → InForce → InForce
+with_field kind payload fields = record {
+  host = text_or HOST kind payload fields.host;
+  plugin = text_or PLUGIN kind payload fields.plugin;
+  plugin_instance = text_or PLUGIN_INSTANCE kind payload fields.plugin_instance;
+  type_name = text_or TYPE kind payload fields.type_name;
+  type_instance = text_or TYPE_INSTANCE kind payload fields.type_instance;
+  time = if is_time kind then units_of TIME kind payload else fields.time;
+  interval = if is_interval kind then units_of INTERVAL kind payload else fields.interval;
+  severity = if kind == SEVERITY then number_of payload else fields.severity;
+}
+
+-- a byte that stands for another when a text is cleaned
+abbrev pub is_replaced : Bool → ℕ → Bool
+is_replaced slash byte = is_control byte || (slash && is_slash byte)

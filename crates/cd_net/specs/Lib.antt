@@ -1,0 +1,6 @@
+pub mod Packet
+pub mod Payload
+pub mod InForce
+pub mod Refusals
+pub mod Items
+pub mod Carried

@@ -1,0 +1,85 @@
+//! The notification of a message part.
+ghost use Rattle.std.specs.Prelude.{◌≡◌, IfOk};
+ghost use Rattle.std.specs.Option.{option_copied};
+ghost use Rattle.cd_net.specs.Carried.{seen};
+ghost use Rattle.cd_net.specs.Items.{message_of, note_of, note_outcome, severity_of};
+ghost use Rattle.cd_net.specs.Payload.{text_of};
+ghost use Rattle.cd_net.specs.Refusals.{first_refusal, is_severity, note_tests};
+
+use crate::carried::Carried;
+use crate::clean::clean_copy;
+use crate::decode::Outcome;
+use crate::kinds::{FAILURE_CODE, OKAY_CODE, WARNING_CODE};
+use crate::payload::text;
+use crate::{Item, ItemRefusal};
+use cd_value::{MESSAGE_LIMIT, Memory, Notification, Severity, longest_front};
+use std::alloc::Global;
+
+fn is_severity(code: u64) -> bool
+    ensures { result ≡ is_severity code }
+{
+    code == FAILURE_CODE || code == WARNING_CODE || code == OKAY_CODE
+}
+
+fn severity_of(code: u64) -> Severity
+    ensures { result ≡ severity_of code }
+{
+    match code {
+        FAILURE_CODE => Severity::Failure,
+        WARNING_CODE => Severity::Warning,
+        _ => Severity::Okay,
+    }
+}
+
+/// Why a message part gives no notification, if so.
+fn note_refusal(fields: &Carried<'_>, message: Option<&str>) -> Option<ItemRefusal>
+    ensures { result ≡ first_refusal (note_tests (seen fields.now) (option_copied message.entry)) }
+{
+    if !fields.are_texts() || message.is_none() {
+        return Some(ItemRefusal::NotText);
+    }
+    if fields.has_long_text() || !fields.are_times() {
+        return Some(ItemRefusal::BadField);
+    }
+    if !is_severity(fields.severity) {
+        return Some(ItemRefusal::BadSeverity);
+    }
+    if !fields.has_time() {
+        return Some(ItemRefusal::NoTime);
+    }
+    None
+}
+
+/// The notification of a message under the fields in force.
+fn note_of(alloc: Global, fields: &Carried<'_>, message: &str) -> Result<Notification, Memory>
+    ensures { IfOk result (λ note. note ≡ note_of (seen fields.now) message.now) }
+{
+    let host = clean_copy(alloc, fields.host.unwrap_or(""), true)?;
+    let plugin = clean_copy(alloc, fields.plugin.unwrap_or(""), true)?;
+    let plugin_instance = clean_copy(alloc, fields.plugin_instance.unwrap_or(""), true)?;
+    let type_name = clean_copy(alloc, fields.type_name.unwrap_or(""), false)?;
+    let type_instance = clean_copy(alloc, fields.type_instance.unwrap_or(""), false)?;
+    let message = clean_copy(alloc, longest_front(message, MESSAGE_LIMIT), false)?;
+    Ok(Notification {
+        severity: severity_of(fields.severity),
+        time: fields.time.unwrap_or(0),
+        host,
+        plugin,
+        plugin_instance,
+        type_name,
+        type_instance,
+        message,
+    })
+}
+
+#[tactic(auto, unfolding(crate::specs::Items::note_outcome))]
+/// The notification of a message part under the fields in force, or why it gives none.
+pub(crate) fn note(alloc: Global, fields: &Carried<'_>, payload: &[u8]) -> Result<Outcome, Memory>
+    ensures { IfOk result (λ outcome. outcome ≡ note_outcome (seen fields.now) payload.now) }
+{
+    let message = text(payload);
+    if let Some(refusal) = note_refusal(fields, message) {
+        return Ok(Err(refusal));
+    }
+    Ok(Ok(Item::Note(note_of(alloc, fields, message.unwrap_or(""))?)))
+}
