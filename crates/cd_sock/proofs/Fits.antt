@@ -252,10 +252,7 @@ command_fits types B now interval (Ok request) command stands e =
 command_fits types B now interval (Err f) command stands e = absurd cc
 
 -- the lists of a line's command fit the types, whenever it is read
-pub lists_fit : (types : List DataSet) (now interval : ℕ) (line : List ℕ) (command : Command) → meaning types now interval line ≡ Ok command → ListsFit types command
-lists_fit types now interval line command e = command_fits types (is_blank_line line ≡ true) now interval (request_of types line) command (line_stands types line) e
 
--- the same of what a text was read as
 pub read_fits : (types : List DataSet) (now interval : ℕ) (text : List ℕ) (result : Result Command LineFault) → Gives (λ command. command) line_fault result (at_moment now interval (request_of_text types text))
     → IfOk result (λ command. ListsFit types command)
 read_fits types now interval text (Ok command) given = command_fits types (Unit {0}) now interval (request_of_text types text) command (text_stands types (Unit {0}) text (λ e. tt)) given

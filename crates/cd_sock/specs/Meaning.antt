@@ -147,11 +147,15 @@ abbrev pub GivesAt : ℕ → ℕ → Result Command LineFault → Result Request
 GivesAt now interval result read =
     Gives (λ command. command) line_fault result (at_moment now interval read)
 
+-- the list of a value word
+abbrev pub list_of : List DataSource → Fields → ℕ → ℕ → Word → ValueList
+list_of sources id now interval word = list_at now interval id (reading sources word)
+
 -- the lists of value words that have no fault
 abbrev pub lists_of : List DataSource → Fields → ℕ → ℕ → List Word → Option (List ValueList)
 lists_of sources id now interval words =
     if list_all (is_whole sources) words
-    then Some (map (λ word. list_at now interval id (reading sources word)) words) else None
+    then Some (map (list_of sources id now interval) words) else None
 
 -- the first fault of value words, one of which has one
 abbrev pub value_fault : List DataSource → List Word → LineFault

@@ -1,8 +1,8 @@
 //! The value words of PUTVAL.
-ghost use Rattle.std.specs.Prelude.{◌≡◌, ◌==◌, ◌&&◌, ◌∷◌, IfOk, Option, Some, None, is_some, count_by, map, slice_index, option_copied, if◌then◌else◌};
+ghost use Rattle.std.specs.Prelude.{◌≡◌, ◌==◌, ◌∷◌, IfOk, Some, None, count_by, slice_index, option_copied, if◌then◌else◌};
 ghost use Rattle.std.specs.List.{before_first, slice_split};
-ghost use Rattle.cd_sock.specs.Meaning.{list_at};
-ghost use Rattle.cd_sock.specs.Values.{change_of, count_of, has_count, has_time, is_colon, is_unknown, is_whole, level_of, reading, texts_in, time_at, value_of, values_in};
+ghost use Rattle.cd_sock.specs.Meaning.{list_of};
+ghost use Rattle.cd_sock.specs.Values.{change_of, count_of, has_count, has_time, is_colon, is_unknown, is_whole, level_of, texts_in, time_at, value_of, values_in};
 
 use crate::arguments::is_keyword;
 use cd_text::{Word, read_millionths, read_time};
@@ -125,7 +125,7 @@ pub fn read_list(
     interval: u64,
 ) -> Result<Option<ValueList>, Memory>
     ensures { IfOk result (λ list. list ≡ (if is_whole sources.now word.now
-        then Some (list_at now interval id (reading sources.now word.now)) else None)) }
+        then Some (list_of sources.now id now interval word.now) else None)) }
 {
     let (time, rest) = at_colon(word.text.as_str());
     let Some(time) = read_moment(time, now) else {
