@@ -3,7 +3,7 @@ use Rattle.std.proofs.Common.{◌≡◌, ◌≢◌, ◌⊎◌, ℕ, List, [], �
 use Rattle.atomic_table.proofs.Lists.{at_snoc}
 use Rattle.cd_turn.specs.declared.view.View.{View}
 use Rattle.cd_turn.specs.Rule.{At, IsFull, IsOver, most}
-use Rattle.cd_turn.specs.Families.{over_or}
+use Rattle.std.specs.Option.{option_or}
 use Rattle.cd_turn.proofs.Views.{set_each}
 
 -- a word that has not its last value changes, and each that has it stays
@@ -26,6 +26,6 @@ module _ {K E : Type 0} (words words' : List ℕ) (views : List (View K E)) (id 
 pub over_more : {K E : Type 0} (words : List ℕ) (views : List (View K E)) (z : View K E) → z.over ≡ None → IsOver words views → IsOver words (views ++ z ∷ [])
 over_more {K = K} {E = E} words views z over o j i u l e = ⊎_elim (λ h. o j i u (h, l.1) e) (λ (is : z ≡ u). absurd (cc (over, ap (λ (q : View K E). q.over) is, e))) (at_snoc views z u j l.0)
 
-pub over_or_case : (a b : Option ℕ) (i : ℕ) → over_or a b ≡ Some i → (a ≡ Some i) ⊎ (b ≡ Some i)
+pub over_or_case : (a b : Option ℕ) (i : ℕ) → option_or a b ≡ Some i → (a ≡ Some i) ⊎ (b ≡ Some i)
 over_or_case None b i e = inr e
 over_or_case (Some a) b i e = inl e

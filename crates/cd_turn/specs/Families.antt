@@ -1,5 +1,6 @@
 -- Passes that are split off, and joined.
 use Rattle.std.specs.Prelude.{◌≡◌, ◌⊎◌, ℕ, ◌+◌, ◌<◌, ◌==◌, Bool, if◌then◌else◌, Option, List, [], ◌++◌, ◌∷◌, true, false, Some, None}
+use Rattle.std.specs.Option.{option_or}
 use Rattle.cd_turn.specs.declared.view.View.{View}
 use Rattle.cd_turn.specs.Rule.{Has, Joined, drawn_of, new_view}
 
@@ -55,11 +56,6 @@ abbrev pub without : ℕ → List ℕ → List ℕ
 without a [] = []
 without a (x ∷ xs) = if x == a then xs else x ∷ without a xs
 
--- the word that was found used up, by the one or else by the other
-abbrev pub over_or : Option ℕ → Option ℕ → Option ℕ
-over_or None o = o
-over_or (Some a) o = Some a
-
 -- the view of a pass that took in another
 abbrev pub merged_view : {K E : Type 0} → View K E → View K E → View K E
 merged_view v w = record v {
@@ -68,5 +64,5 @@ merged_view v w = record v {
   merged = v.merged + 1;
   joined = v.joined ++ (w.actor, w.mine) ∷ w.joined;
   beginnings = v.seen ∷ w.seen ∷ [];
-  over = over_or v.over w.over;
+  over = option_or v.over w.over;
 }
