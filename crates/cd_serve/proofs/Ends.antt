@@ -18,7 +18,8 @@ use Rattle.cd_cache.specs.declared.entry.CacheEntry.{CacheEntry}
 use Rattle.cd_daemon.specs.Calls.{calls_to}
 use Rattle.cd_daemon.specs.Answers.{is_reserved, register_answer, close_answer}
 use Rattle.cd_daemon.specs.Legal.{IsLegal}
-use Rattle.cd_transcript.specs.Transcripts.{Said, of_lines}
+use Rattle.cd_sock.specs.Lines.{Cut}
+use Rattle.cd_transcript.specs.Transcripts.{line_says, of_lines}
 use Rattle.cd_transcript.specs.LineRuns.{OnShelf, Opens, none, plug_in, registers, returned, nothing, ServesLines, closed, IsLineRun}
 use Rattle.cd_transcript.proofs.Events.{closed-of_lines}
 use Rattle.cd_transcript.proofs.Determined.{one_history}
@@ -37,6 +38,11 @@ registered (plug ∷ plugs) P = registered plugs (P ▸ registers P plug)
 pub opens_registered : (shelf : List OnShelf) (P : History) → Opens shelf P [] (registered shelf P)
 opens_registered [] P = none
 opens_registered (plug ∷ plugs) P = plug_in (opens_registered plugs (P ▸ registers P plug))
+
+-- what is registered is registered as a one-thread daemon does it
+pub registered_legal : (K : Opening) (shelf : List OnShelf) (P : History) → IsLegal K P → IsLegal K (registered shelf P)
+registered_legal K [] P legal = legal
+registered_legal K (plug ∷ plugs) P legal = registered_legal K plugs (P ▸ registers P plug) (legal, refl)
 
 begun : (K : Opening) → Standing K false [] [] [] []
 begun K = record {
@@ -189,20 +195,20 @@ after_stop P = P ▸ entry.Stop 0 why.ControlEnd
 abbrev pub at_end : Opening → History → History
 at_end K P = closed K (live (after_stop P)) (after_stop P)
 
-pub run_ends : {Line : Type 0} (says : Line → ℕ → Said) {K : Opening} {opened shelf : List OnShelf} {writer : Bool} {cache : List CacheEntry} {lines : List Line} {given : List Given} (O P : History)
-    → RunsOn K opened shelf writer [] cache P → Opens opened [] [] O → ServesLines K says lines O given P
-    → IsRun K says opened shelf lines given (at_end K P)
-run_ends says {K = K} {opened = opened} {cache = cache} {lines = lines} {given = given} O P s opens serves = record {
+pub run_ends : {K : Opening} {opened shelf : List OnShelf} {writer : Bool} {cache : List CacheEntry} {lines : List Cut} {given : List Given} (O P : History)
+    → RunsOn K opened shelf writer [] cache P → Opens opened [] [] O → ServesLines K (line_says K) lines O given P
+    → IsRun K opened shelf lines given (at_end K P)
+run_ends {K = K} {opened = opened} {cache = cache} {lines = lines} {given = given} O P s opens serves = record {
   legal = few_handed_out opened (live (after_stop P)) (after_stop P) (let A : List Registration → Type 0 = AreOf opened in subst A (sym regs) s.of_shelf)
       (let S : List Registration → Type 0 = λ gs. Standing K true gs [] cache (after_stop P) in subst S (sym regs) (stopped_standing s.standing));
   made = is_made;
-  only = λ other r. one_history K says r is_made;
+  only = λ other r. one_history K (line_says K) r is_made;
   handled = closed-handles K (live (after_stop P)) (after_stop P) ∙ all_handled s.standing ∙ ap length (sym (closed-kept K (live (after_stop P)) (after_stop P)));
   told = s.back ∙ sym (returned-same K P (at_end K P) (closed-registrations K (live (after_stop P)) (after_stop P))
       (λ r. closed-calls_to K (live (after_stop P)) (after_stop P) r ∙ append-nil (calls_to K r P)) (closed-answers_to K (live (after_stop P)) (after_stop P)) opened);
 }
   where
-    is_made : IsLineRun K says opened lines given (at_end K P)
+    is_made : IsLineRun K (line_says K) opened lines given (at_end K P)
     is_made = record {
       opened = O;
       served = P;

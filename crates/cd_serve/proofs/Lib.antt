@@ -4,6 +4,4 @@ pub mod Ends
 pub mod Gifts
 pub mod Working
 pub mod Serving
-pub mod Speaking
-pub mod Cutting
 pub mod Promises

@@ -1,5 +1,5 @@
 -- From the lines that were served to what a run promises.
-use Rattle.std.proofs.Common.{◌≡◌, ◌≤◌, ◌⊎◌, inl, inr, ◌&&◌, not, ℕ, Bool, true, false, Option, Some, List, [], ◌∷◌, ◌++◌, length, Result, Ok, Err, refl, sym, ap, ◌∙◌, subst, append_assoc, arith, length-append}
+use Rattle.std.proofs.Common.{◌≡◌, ◌≤◌, ◌⊎◌, ⊎_elim, inl, inr, ◌&&◌, not, ℕ, Bool, true, false, Option, Some, List, [], ◌∷◌, ◌++◌, length, Result, Ok, Err, refl, sym, ap, ◌∙◌, subst, append_assoc, arith, length-append}
 use Rattle.std.proofs.lemmas.List.{append-nil, length-map}
 use Rattle.cd_io.specs.Causes.{Rose}
 use Rattle.cd_io.specs.Link.{LinkTells}
@@ -16,8 +16,11 @@ use Rattle.cd_dialogue.specs.declared.ends.DialogueFault.TheVariants as faults
 use Rattle.cd_dialogue.specs.declared.ends.InputEnd.{InputEnd}
 use Rattle.cd_dialogue.specs.declared.ends.InputEnd.TheVariants as input
 use Rattle.cd_dialogue.specs.Served.{Served}
-use Rattle.cd_dialogue.specs.Dialogues.{ServesInput, Exceeded}
-use Rattle.cd_dialogue.proofs.Inputs.{input_as}
+use Rattle.cd_dialogue.specs.Dialogues.{ServesInput}
+use Rattle.cd_dialogue.specs.Inputs.{lines_within}
+use Rattle.cd_dialogue.proofs.Breaking.{begins_none}
+use Rattle.cd_io.proofs.Speaking.{spoke_nothing}
+use Rattle.cd_history.specs.declared.given.Given.{Given}
 use Rattle.cd_transcript.specs.Transcripts.{line_says, of_lines, IsTranscript, nothing}
 use Rattle.cd_transcript.specs.LineRuns.{OnShelf, none}
 use Rattle.cd_transcript.proofs.Events.{opens-of_lines}
@@ -31,7 +34,7 @@ use Rattle.cd_serve.specs.Shelf.{on_shelf, places, shown}
 use Rattle.cd_serve.specs.Tells.{Pairs}
 use Rattle.cd_serve.specs.Working.Progress.{Seen, HasServed, IsServed, opened, opening_of, writes_first}
 use Rattle.cd_serve.specs.Working.Standing.{RunsOn, Writes, registration_of}
-use Rattle.cd_serve.proofs.Ends.{registered, opens_registered, run_begins, run_begins_empty, run_begins_refused, run_ends, at_end, at_end-of_lines}
+use Rattle.cd_serve.proofs.Ends.{registered, registered_legal, opens_registered, run_begins, run_begins_empty, run_begins_refused, run_ends, at_end, at_end-of_lines}
 use Rattle.cd_serve.proofs.Gifts.{gave_nothing}
 
 -- ---- the beginning
@@ -118,6 +121,16 @@ module _ (shelf : List OnShelf) (pairs : Pairs) (lines : List Cut) (text : List 
     transcript = h.written;
   }
 
+-- ---- completeness
+
+heard_within : (heard : List ℕ) (before after : LinkTells) → IsWithin before after → Loses heard before.left after.left → length heard ≤ INPUT_LIMIT
+heard_within heard before after w loses =
+    let L : Option (List ℕ) → Option (List ℕ) → Type 0 = Loses heard in
+    let S : Option (List ℕ) → Type 0 = λ o. L (Some w.bytes) o in
+    let F : Option (List ℕ) → Type 0 = λ o. L o after.left in
+    let same : w.bytes ≡ heard ++ w.rest = subst S w.has (subst F w.had loses) in
+    omega (arith, w.few, ap length same, length-append heard w.rest)
+
 -- ---- the whole run
 
 module _ {D : Type 0} (view : D → Seen) (shelf : List OnShelf) (pairs : Pairs) (few : length shelf ≤ 1) (first : D) (is : view first ≡ opened shelf pairs) where
@@ -126,8 +139,99 @@ module _ {D : Type 0} (view : D → Seen) (shelf : List OnShelf) (pairs : Pairs)
       let H : Seen → Type 0 = λ d. HasServed (opened shelf pairs) [] [] d in
       has_served view (opened shelf pairs) lines text [] [] first new s (subst H (sym is) (has_begun shelf pairs few))
 
-  module _ (give_up : D → D → Type 0) (keeps : (old new : D) → give_up old new → places (view new).shelf ≡ places (view old).shelf)
-      (before after : LinkTells) (last : D) (result : Result InputEnd DialogueFault)
-      (serves : ServesInput (Serves view) give_up first last before after INPUT_LIMIT result) where
-    pub run_promised : Promises shelf (view last).shelf (view last).given pairs before after (end_of result)
-    run_promised = ?
+  module _ (gives_up : D → D → Type 0) (before after : LinkTells) (last : D) where
+    pub run_promised : (result : Result InputEnd DialogueFault) → ServesInput (Serves view) gives_up first last before after INPUT_LIMIT result
+        → Promises shelf (view last).shelf (view last).given pairs before after (end_of result)
+    run_promised (Ok input.Ended) s = record {
+      heard = s.heard;
+      text = s.text;
+      short = s.short;
+      served = has_run shelf pairs _ _ (view last) (served_from _ _ last s.served);
+      spoke = s.spoke;
+      ended = s.ended;
+    }
+    run_promised (Ok input.TooLong) s = record {
+      heard = s.heard;
+      text = s.text;
+      long = s.long;
+      served = has_run shelf pairs _ _ (view last) (served_from _ _ last s.served);
+      spoke = s.spoke;
+    }
+    run_promised (Err faults.Link) s = record {
+      heard = s.heard;
+      lines = s.lines;
+      first = s.first;
+      said = s.broke.said;
+      unsaid = s.broke.unsaid;
+      served = has_run shelf pairs _ _ (view last) (served_from _ _ last s.broke.served);
+      spoke = s.broke.spoke;
+      rose = s.broke.rose;
+    }
+    run_promised (Err faults.Memory) s = record {
+      heard = s.heard;
+      lines = s.lines;
+      first = s.first;
+      text = s.broke.text;
+      served = has_come_so_far shelf pairs _ _ (view s.broke.last) (served_from _ _ s.broke.last s.broke.served);
+      spoke = s.broke.spoke;
+    }
+
+    -- each object is back in its place
+    pub run_back : ((old new : D) → gives_up old new → places (view new).shelf ≡ places (view old).shelf)
+        → (result : Result InputEnd DialogueFault) → ServesInput (Serves view) gives_up first last before after INPUT_LIMIT result
+        → places (view last).shelf ≡ places shelf
+    run_back keeps result s = back result s ∙ ap (λ (d : Seen). places d.shelf) is
+      where
+        back : (r : Result InputEnd DialogueFault) → ServesInput (Serves view) gives_up first last before after INPUT_LIMIT r → places (view last).shelf ≡ places (view first).shelf
+        back (Ok input.Ended) s = keeps_places view _ _ first last s.served
+        back (Ok input.TooLong) s = keeps_places view _ _ first last s.served
+        back (Err faults.Link) s = keeps_places view _ _ first last s.broke.served
+        back (Err faults.Memory) s = ⊎_elim (λ e. ap (λ (d : D). places (view d).shelf) e) (λ g. keeps s.broke.last last g) s.broke.gave_up
+            ∙ keeps_places view _ _ first s.broke.last s.broke.served
+
+    pub run_completed : (result : Result InputEnd DialogueFault) → ServesInput (Serves view) gives_up first last before after INPUT_LIMIT result
+        → (Rose before.faults after.faults → ⊥) → IsWithin before after → (end_of result ≡ ends.Done) ⊎ (end_of result ≡ ends.Memory)
+    run_completed (Ok input.Ended) s fine within = inl refl
+    run_completed (Ok input.TooLong) s fine within =
+        let short : length s.heard ≤ INPUT_LIMIT = heard_within s.heard before after within s.spoke.left in
+        let long = s.long in
+        absurd (omega (arith, short, long))
+    run_completed (Err faults.Link) s fine within = absurd (fine s.broke.rose)
+    run_completed (Err faults.Memory) s fine within = inr refl
+
+pub never_usage : (result : Result InputEnd DialogueFault) → end_of result ≡ ends.Usage → ⊥
+never_usage (Ok input.Ended) e = cc
+never_usage (Ok input.TooLong) e = cc
+never_usage (Err faults.Link) e = cc
+never_usage (Err faults.Memory) e = cc
+
+-- memory was lacking before anything was done
+pub nothing_served : (shelf back : List OnShelf) (given : List Given) (pairs : Pairs) (link : LinkTells) → Promises shelf back given pairs link link ends.Memory
+nothing_served shelf back given pairs link = record {
+  heard = [];
+  lines = [];
+  first = begins_none (lines_within INPUT_LIMIT []);
+  text = [];
+  served = record {
+    opened = registered shelf [];
+    history = registered shelf [];
+    given_first = [];
+    given_lines = [];
+    opens = opens_registered shelf [];
+    serves = none;
+    legal = registered_legal opening shelf [] tt;
+    transcript = let T : List Event → Type 0 = λ events. IsTranscript (line_says opening) [] events [] in subst T (sym (opens-of_lines (opens_registered shelf []))) nothing;
+  };
+  spoke = spoke_nothing link;
+}
+
+-- a clock and dice begin as the world tells
+pub pairs_same : (clock clock' dice dice' dice'' : Option (ℕ × ℕ)) → clock ≡ clock' → dice ≡ dice' → dice' ≡ dice''
+    → let p : Pairs = record { clock = clock; dice = dice } in let q : Pairs = record { clock = clock'; dice = dice'' } in p ≡ q
+pairs_same clock clock' dice dice' dice'' c d e = rw (c, d, e) refl
+
+pub first_is : (first : Seen) (shelf : List OnShelf) (pairs begun : Pairs) → first ≡ opened shelf pairs → pairs ≡ begun → first ≡ opened shelf begun
+first_is first shelf pairs begun is same = is ∙ ap (opened shelf) same
+
+pub few_shown : {P : Type 0} (tells : P → PlugTells) (shelf : List (ShelvedOf P)) → length shelf ≤ 1 → length (on_shelf tells shelf) ≤ 1
+few_shown tells shelf few = omega (arith, few, length-map shelf (shown tells))

@@ -17,7 +17,7 @@ use Rattle.cd_sock.specs.declared.fault.LineFault.TheVariants as faults
 use Rattle.cd_sock.specs.declared.reply.Reply.{Reply}
 use Rattle.cd_sock.specs.declared.reply.Reply.TheVariants as reply
 use Rattle.cd_reading.specs.Gives.{Refuses}
-use Rattle.cd_sock.specs.Faults.{fault as fault_of}
+use Rattle.cd_sock.specs.Faults.{line_fault as fault_of}
 use Rattle.cd_sock.specs.Lines.{Cut}
 use Rattle.cd_sock.specs.Replies.{reply_text}
 use Rattle.cd_sock.specs.Meaning.{meaning, is_blank_line, ListsFit}
@@ -30,11 +30,11 @@ use Rattle.cd_history.specs.declared.given.Given.TheVariants.{Now, Word}
 use Rattle.cd_history.specs.History.{History, ◌▸◌}
 use Rattle.cd_daemon.specs.declared.Opening.{Opening}
 use Rattle.cd_daemon.specs.Answers.{accept_answer, query_answer, found_in}
-use Rattle.cd_transcript.specs.Transcripts.{Said, IsTranscript, of_lines, found_reply, offered_reply}
+use Rattle.cd_transcript.specs.Transcripts.{Said, line_says, IsTranscript, of_lines, found_reply, offered_reply}
 use Rattle.cd_transcript.specs.LineRuns.{ServesLines, Works, IsAsked, nothing, blank, refused, put, got, listed, one_more}
 use Rattle.cd_transcript.proofs.Events.{written_more, blank_writes, refused_writes, put_writes, got_writes, listed_writes}
 use Rattle.cd_daemon.specs.declared.TheConstants.{INTERVAL}
-use Rattle.cd_serve.specs.Working.Progress.{says, Seen, opening_of, HasServed, IsWorking, with_moment, Puts, Obeys, Serves}
+use Rattle.cd_serve.specs.Working.Progress.{Seen, opening_of, HasServed, IsWorking, with_moment, Puts, Obeys, Serves}
 use Rattle.cd_serve.proofs.Gifts.{gave_moment, gave_words}
 use Rattle.cd_serve.proofs.Steps.{accepted_ok, works_on}
 use Rattle.cd_serve.proofs.Shelves.{run_accepts, run_asks}
@@ -45,21 +45,21 @@ still P = nothing
 
 module _ (begun : Seen) (lines : List Cut) (text : List ℕ) (old : Seen) (h : HasServed begun lines text old) (line : Cut) where
   -- a blank line changes nothing
-  pub served_blank : says begun.types line 0 ≡ Ok command.Blank → HasServed begun (lines ++ line ∷ []) (text ++ []) old
+  pub served_blank : line_says (opening_of begun) line 0 ≡ Ok command.Blank → HasServed begun (lines ++ line ∷ []) (text ++ []) old
   served_blank is = record {
     opened = h.opened;
     past = h.past;
     types = h.types;
     opens = h.opens;
     runs = h.runs;
-    serves = subst (λ (given : List Given). ServesLines (opening_of begun) (says begun.types) (lines ++ line ∷ []) h.opened given h.past) (append-nil old.given) (one_more h.serves (blank is));
+    serves = subst (λ (given : List Given). ServesLines (opening_of begun) (line_says (opening_of begun)) (lines ++ line ∷ []) h.opened given h.past) (append-nil old.given) (one_more h.serves (blank is));
     written = written_more _ h.written (blank_writes _ line h.past is);
     gave = h.gave;
   }
 
   module _ (now : ℕ) (at : IfSome old.pairs.clock (λ pair. now ≡ pair.0)) where
     -- a refused line only asks a moment
-    pub served_refused : (fault : LineFault) → says begun.types line 0 ≡ Err fault
+    pub served_refused : (fault : LineFault) → line_says (opening_of begun) line 0 ≡ Err fault
         → HasServed begun (lines ++ line ∷ []) (text ++ reply_text (reply.Fault fault)) (with_moment now old)
     served_refused fault is = record {
       opened = h.opened;
@@ -76,7 +76,7 @@ module _ (begun : Seen) (lines : List Cut) (text : List ℕ) (old : Seen) (h : H
     same_cache name = rw (h.runs.standing.caches, h.types) refl
 
     -- a name is asked for
-    pub served_asked : (id : Fields) → says begun.types line 0 ≡ Ok (command.GetVal id)
+    pub served_asked : (id : Fields) → line_says (opening_of begun) line 0 ≡ Ok (command.GetVal id)
         → HasServed begun (lines ++ line ∷ []) (text ++ reply_text (found_reply (found_in (opening_of old) (cached (name_of id) old.cache)))) (with_moment now old)
     served_asked id is = record {
       opened = h.opened;
@@ -85,13 +85,13 @@ module _ (begun : Seen) (lines : List Cut) (text : List ℕ) (old : Seen) (h : H
       opens = h.opens;
       runs = run_asks (Some (name_of id)) h.runs;
       serves = one_more h.serves (got is (works_on (run_asks (Some (name_of id)) h.runs).standing nothing));
-      written = let W : Found → Type 0 = λ found. IsTranscript (says begun.types) (lines ++ line ∷ []) (of_lines (h.past ▸ entry.Query 0 (Some (name_of id)) (query_answer (opening_of begun) h.past (Some (name_of id))))) (text ++ reply_text (found_reply found)) in
+      written = let W : Found → Type 0 = λ found. IsTranscript (line_says (opening_of begun)) (lines ++ line ∷ []) (of_lines (h.past ▸ entry.Query 0 (Some (name_of id)) (query_answer (opening_of begun) h.past (Some (name_of id))))) (text ++ reply_text (found_reply found)) in
           subst W (same_cache (name_of id)) (written_more _ h.written (got_writes _ {K = opening_of begun} line h.past _ 0 id _ is (still _)));
       gave = gave_moment begun.pairs old.pairs old.given now h.gave at;
     }
 
     -- all rows are asked for
-    pub served_listed : says begun.types line 0 ≡ Ok command.ListVal
+    pub served_listed : line_says (opening_of begun) line 0 ≡ Ok command.ListVal
         → HasServed begun (lines ++ line ∷ []) (text ++ reply_text (reply.Listed (rows_of old.cache))) (with_moment now old)
     served_listed is = record {
       opened = h.opened;
@@ -100,7 +100,7 @@ module _ (begun : Seen) (lines : List Cut) (text : List ℕ) (old : Seen) (h : H
       opens = h.opens;
       runs = run_asks None h.runs;
       serves = one_more h.serves (listed is (works_on (run_asks None h.runs).standing nothing));
-      written = let W : List CacheEntry → Type 0 = λ cache. IsTranscript (says begun.types) (lines ++ line ∷ []) (of_lines (h.past ▸ entry.Query 0 None (query_answer (opening_of begun) h.past None))) (text ++ reply_text (reply.Listed (rows_of cache))) in
+      written = let W : List CacheEntry → Type 0 = λ cache. IsTranscript (line_says (opening_of begun)) (lines ++ line ∷ []) (of_lines (h.past ▸ entry.Query 0 None (query_answer (opening_of begun) h.past None))) (text ++ reply_text (reply.Listed (rows_of cache))) in
           subst W h.runs.standing.caches (written_more _ h.written (listed_writes _ {K = opening_of begun} line h.past _ 0 _ is (still _)));
       gave = gave_moment begun.pairs old.pairs old.given now h.gave at;
     }
@@ -132,7 +132,7 @@ module _ (begun : Seen) (lines : List Cut) (text : List ℕ) (old : Seen) (h : H
           ∙ append_assoc (old.given ++ Now now ∷ []) (map Word words) ends.given
           ∙ append_assoc old.given (Now now ∷ []) (map Word words ++ ends.given)
 
-      pub served_put : says begun.types line 0 ≡ Ok (command.PutVal at_zero) → says begun.types line now ≡ Ok (command.PutVal lists)
+      pub served_put : line_says (opening_of begun) line 0 ≡ Ok (command.PutVal at_zero) → line_says (opening_of begun) line now ≡ Ok (command.PutVal lists)
           → HasServed begun (lines ++ line ∷ []) (text ++ reply_text reply.Success) new
       served_put zero is = record {
         opened = h.opened;
@@ -140,9 +140,9 @@ module _ (begun : Seen) (lines : List Cut) (text : List ℕ) (old : Seen) (h : H
         types = ends.types;
         opens = h.opens;
         runs = ends.runs;
-        serves = subst (λ (given : List Given). ServesLines (opening_of begun) (says begun.types) (lines ++ line ∷ []) h.opened given ends.past) (sym given_is)
+        serves = subst (λ (given : List Given). ServesLines (opening_of begun) (line_says (opening_of begun)) (lines ++ line ∷ []) h.opened given ends.past) (sym given_is)
             (one_more h.serves (put zero is puts.rolled.many (works_on ends.runs.standing ends.works)));
-        written = let W : Result (List Offered) Stopping → Type 0 = λ answer. IsTranscript (says begun.types) (lines ++ line ∷ []) (of_lines ends.past) (text ++ reply_text (offered_reply answer)) in
+        written = let W : Result (List Offered) Stopping → Type 0 = λ answer. IsTranscript (line_says (opening_of begun)) (lines ++ line ∷ []) (of_lines ends.past) (text ++ reply_text (offered_reply answer)) in
             subst W (accepted_ok lists words h.runs.standing) (written_more _ h.written (put_writes _ line h.past ends.past 0 now lists words (accept_answer (opening_of begun) h.past lists words) is ends.works));
         gave = ends.gave;
       }

@@ -9,7 +9,7 @@ use Rattle.cd_history.specs.declared.given.Given.{Given}
 use Rattle.cd_history.specs.History.{History, handles, kept}
 use Rattle.cd_daemon.specs.declared.Opening.{Opening}
 use Rattle.cd_daemon.specs.Legal.{IsLegal}
-use Rattle.cd_dialogue.specs.Dialogues.{ServedAll, Exceeded, LostLink, LackedMemory}
+use Rattle.cd_dialogue.specs.Inputs.{AllServed, TooMuch, LinkLost, MemoryLacked}
 use Rattle.cd_transcript.specs.Transcripts.{line_says, of_lines, IsTranscript}
 use Rattle.cd_transcript.specs.LineRuns.{OnShelf, Opens, ServesLines, returned, IsLineRun}
 use Rattle.cd_serve.specs.declared.end.End.{End}
@@ -68,11 +68,11 @@ module _ (shelf back : List OnShelf) (given : List Given) (begun : Pairs) (befor
     pub link : after ≡ before
 
   abbrev pub Promises : End → Type 0
-  Promises ends.Done = ServedAll (HasRun shelf back given begun) INPUT_LIMIT before after
-  Promises ends.InputTooLong = Exceeded (HasRun shelf back given begun) INPUT_LIMIT before after
-  Promises ends.LinkFault = LostLink (HasRun shelf back given begun) INPUT_LIMIT before after
+  Promises ends.Done = AllServed (HasRun shelf back given begun) INPUT_LIMIT before after
+  Promises ends.InputTooLong = TooMuch (HasRun shelf back given begun) INPUT_LIMIT before after
+  Promises ends.LinkFault = LinkLost (HasRun shelf back given begun) INPUT_LIMIT before after
   Promises ends.Usage = IsUntouched
-  Promises ends.Memory = LackedMemory (HasBegun shelf) INPUT_LIMIT before after
+  Promises ends.Memory = MemoryLacked (HasBegun shelf) INPUT_LIMIT before after
 
 -- the input has at most as many bytes as are taken, where it tells
 pub record IsWithin (before after : LinkTells) : Type 0 where
