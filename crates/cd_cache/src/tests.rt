@@ -1,11 +1,11 @@
 //! Lists worked by hand, one after another.
 use crate::{Cache, Updated};
-use cd_value::{DataSet, DataSource, DsType, Identifier, Memory, Sequence, Text, Value, ValueList};
+use cd_value::{
+    DataSet, DataSource, DsType, Identifier, Memory, RateView, SECOND, Sequence, Text, Value,
+    ValueList,
+};
 use std::alloc::Global;
 use std::test::Fail;
-
-/// A second, in units of 2^-30 s.
-const SECOND: u64 = 1 << 30;
 
 fn set_of(alloc: Global, name: &str, kind: DsType) -> Result<DataSet, Memory> {
     let source = DataSource {
