@@ -4,12 +4,13 @@ use Rattle.std.specs.List.{filter, flat_map}
 use Rattle.cd_registry.specs.declared.calls.Answer.{Answer}
 use Rattle.cd_registry.specs.declared.calls.AnsweredCall.{AnsweredCall}
 use Rattle.cd_registry.specs.declared.calls.Call.{Call}
-use Rattle.cd_cache.specs.declared.entry.CacheEntry.{CacheEntry}
+use Rattle.cd_cache.specs.Cache.{CacheMap, empty}
 use Rattle.cd_history.specs.declared.entry.Entry.TheVariants as entry
 use Rattle.cd_history.specs.History.{Event, History, ◌▸◌}
 use Rattle.cd_history.specs.Registrations.{registrations, is_text}
 use Rattle.cd_history.specs.Leases.{takes, answers_to}
 use Rattle.cd_daemon.specs.declared.Opening.{Opening}
+use Rattle.cd_daemon.specs.declared.TheConstants.{TIMEOUT}
 use Rattle.cd_daemon.specs.Handling.{Post, next_handling}
 
 -- of some calls, those to r
@@ -21,9 +22,9 @@ answered_calls (call ∷ more) (answer ∷ answers) = record { call = call; answ
 answered_calls more answers = []
 
 module _ (K : Opening) where
-  -- each Handle leaves the cache that its list leaves; no other entry changes it
-  abbrev pub cache_after : History → List CacheEntry
-  cache_after [] = []
+  -- the cache is empty at first, and each Handle leaves the one that its list leaves; no other entry changes it
+  abbrev pub cache_after : History → CacheMap
+  cache_after [] = empty TIMEOUT
   cache_after (P ▸ entry.Handle a now reply) = (next_handling K (cache_after P) P now).cache
   cache_after (P ▸ e) = cache_after P
 

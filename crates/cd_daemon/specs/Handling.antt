@@ -5,10 +5,9 @@ use Rattle.cd_registry.specs.declared.calls.Call.{Call}
 use Rattle.cd_registry.specs.declared.calls.Call.TheVariants as calls
 use Rattle.cd_registry.specs.declared.kinds.TheConstants.Kinds.{WRITE}
 use Rattle.cd_types.specs.Types.{set_named}
-use Rattle.cd_cache.specs.declared.entry.CacheEntry.{CacheEntry}
 use Rattle.cd_cache.specs.declared.entry.Updated.{Updated}
 use Rattle.cd_cache.specs.declared.entry.Updated.TheVariants as outcomes
-use Rattle.cd_cache.specs.Cache.{updated, outcome}
+use Rattle.cd_cache.specs.Cache.{CacheMap, updated, outcome}
 use Rattle.cd_history.specs.declared.entry.How.{How}
 use Rattle.cd_history.specs.declared.entry.How.TheVariants as how
 use Rattle.cd_history.specs.History.{History, handles, kept}
@@ -27,7 +26,7 @@ to_each regs call = map (λ r. record { reg = r; call = call }) regs
 pub record Handling : Type 0 where
   pub how : How
   pub skipped : ℕ
-  pub cache : List CacheEntry
+  pub cache : CacheMap
   pub posts : List Post
 
 abbrev pub as_how : Updated → How
@@ -35,12 +34,12 @@ as_how outcomes.Stored = how.Stored
 as_how outcomes.Old = how.Old
 
 -- the cache after a list that came at a moment. Its type is known wherever a list is handled.
-abbrev pub stored : Opening → ValueList → ℕ → List CacheEntry → List CacheEntry
+abbrev pub stored : Opening → ValueList → ℕ → CacheMap → CacheMap
 stored K list now cache = elim (set_named list.id.type_name K.types) [ None ↦ cache | Some set ↦ updated set list now cache ]
 
 -- What handling a list does, with what is in force, the cache, the live registrations and the moment: it is stored unless
 -- what is cached under its name is as new, no writer is skipped, and it is written to all live writers.
-abbrev pub handling : Opening → List CacheEntry → List Registration → ValueList → ℕ → Handling
+abbrev pub handling : Opening → CacheMap → List Registration → ValueList → ℕ → Handling
 handling K cache regs list now = record {
   how = as_how (outcome list cache);
   skipped = 0;
@@ -49,7 +48,7 @@ handling K cache regs list now = record {
 }
 
 -- what handling does; where no list is left, nothing
-abbrev pub handling_if_any : Opening → List CacheEntry → List Registration → Option ValueList → ℕ → Handling
+abbrev pub handling_if_any : Opening → CacheMap → List Registration → Option ValueList → ℕ → Handling
 handling_if_any K cache regs None now = record { how = how.StoppedBefore; skipped = 0; cache = cache; posts = [] }
 handling_if_any K cache regs (Some list) now = handling K cache regs list now
 
@@ -58,5 +57,5 @@ abbrev pub next_list : History → Option ValueList
 next_list P = slice_get (kept P) (handles P)
 
 -- what the next Handle does at a moment, with that cache
-abbrev pub next_handling : Opening → List CacheEntry → History → ℕ → Handling
+abbrev pub next_handling : Opening → CacheMap → History → ℕ → Handling
 next_handling K cache P now = handling_if_any K cache (live P) (next_list P) now

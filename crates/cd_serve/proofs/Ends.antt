@@ -14,7 +14,8 @@ use Rattle.cd_history.specs.History.{History, ◌▸◌, handles, kept}
 use Rattle.cd_history.specs.Registrations.{Registration, registrations, is_text, live, closed_by}
 use Rattle.cd_history.specs.Leases.{answers_to}
 use Rattle.cd_daemon.specs.declared.Opening.{Opening}
-use Rattle.cd_cache.specs.declared.entry.CacheEntry.{CacheEntry}
+use Rattle.cd_cache.specs.Cache.{CacheMap, empty}
+use Rattle.cd_daemon.specs.declared.TheConstants.{TIMEOUT}
 use Rattle.cd_daemon.specs.Calls.{calls_to}
 use Rattle.cd_daemon.specs.Answers.{is_reserved, register_answer, close_answer}
 use Rattle.cd_daemon.specs.Legal.{IsLegal}
@@ -44,7 +45,7 @@ pub registered_legal : (K : Opening) (shelf : List OnShelf) (P : History) → Is
 registered_legal K [] P legal = legal
 registered_legal K (plug ∷ plugs) P legal = registered_legal K plugs (P ▸ registers P plug) (legal, refl)
 
-begun : (K : Opening) → Standing K false [] [] [] []
+begun : (K : Opening) → Standing K false [] [] (empty TIMEOUT) []
 begun K = record {
   legal = tt;
   is_so = refl;
@@ -60,7 +61,7 @@ begun K = record {
   caches = refl;
 }
 
-pub run_begins_empty : (K : Opening) → RunsOn K [] [] false [] [] (registered [] [])
+pub run_begins_empty : (K : Opening) → RunsOn K [] [] false [] (empty TIMEOUT) (registered [] [])
 run_begins_empty K = record { regs = []; standing = begun K; of_shelf = refl; writes = refl; back = refl }
 
 module _ (K : Opening) (plug : OnShelf) where
@@ -68,9 +69,9 @@ module _ (K : Opening) (plug : OnShelf) where
   with_reply reply = [] ▸ entry.Register 0 plug.name (joining.Plug plug.kinds [] plug.tells) reply
 
   -- a reserved name is refused
-  pub run_begins_refused : is_reserved plug.name ≡ true → RunsOn K (plug ∷ []) (plug ∷ []) false [] [] (registered (plug ∷ []) [])
+  pub run_begins_refused : is_reserved plug.name ≡ true → RunsOn K (plug ∷ []) (plug ∷ []) false [] (empty TIMEOUT) (registered (plug ∷ []) [])
   run_begins_refused taken =
-      subst (λ (reply : Result ℕ RegisterFault). RunsOn K (plug ∷ []) (plug ∷ []) false [] [] (with_reply reply)) (sym is) (record {
+      subst (λ (reply : Result ℕ RegisterFault). RunsOn K (plug ∷ []) (plug ∷ []) false [] (empty TIMEOUT) (with_reply reply)) (sym is) (record {
         regs = [];
         standing = record {
           legal = (tt, sym is);
@@ -95,9 +96,9 @@ module _ (K : Opening) (plug : OnShelf) where
       is = rw taken refl
 
   pub run_begins : (writer : Bool) → is_reserved plug.name ≡ false → Writes writer (registration_of plug ∷ [])
-      → RunsOn K (plug ∷ []) (plug ∷ []) writer [] [] (registered (plug ∷ []) [])
+      → RunsOn K (plug ∷ []) (plug ∷ []) writer [] (empty TIMEOUT) (registered (plug ∷ []) [])
   run_begins writer free writes =
-      subst (λ (reply : Result ℕ RegisterFault). RunsOn K (plug ∷ []) (plug ∷ []) writer [] [] (with_reply reply)) (sym is) (record {
+      subst (λ (reply : Result ℕ RegisterFault). RunsOn K (plug ∷ []) (plug ∷ []) writer [] (empty TIMEOUT) (with_reply reply)) (sym is) (record {
         regs = registration_of plug ∷ [];
         standing = record {
           legal = (tt, sym is);
@@ -126,7 +127,7 @@ module _ (K : Opening) (plug : OnShelf) where
 
 -- ---- the end
 
-stopped_standing : {K : Opening} {regs : List Registration} {cache : List CacheEntry} {P : History} → Standing K false regs [] cache P → Standing K true regs [] cache (P ▸ entry.Stop 0 why.ControlEnd)
+stopped_standing : {K : Opening} {regs : List Registration} {cache : CacheMap} {P : History} → Standing K false regs [] cache P → Standing K true regs [] cache (P ▸ entry.Stop 0 why.ControlEnd)
 stopped_standing {K = K} {P = P} s = record {
   legal = (s.legal, tt);
   is_so = refl;
@@ -142,7 +143,7 @@ stopped_standing {K = K} {P = P} s = record {
   caches = s.caches;
 }
 
-module _ {K : Opening} {cache : List CacheEntry} (g : Registration) (Q : History) (s : Standing K true (g ∷ []) [] cache Q) where
+module _ {K : Opening} {cache : CacheMap} (g : Registration) (Q : History) (s : Standing K true (g ∷ []) [] cache Q) where
   abbrev after_close : History
   after_close = Q ▸ entry.Close 0 g.name (close_answer Q g.name)
 
@@ -158,7 +159,7 @@ module _ {K : Opening} {cache : List CacheEntry} (g : Registration) (Q : History
   handed_out_legal = ((s.legal, refl), (refl, closed_by_us))
 
 -- the registrations of a shelf of at most one plug-in are closed and handed out as a one-thread daemon does it
-few_handed_out : {K : Opening} {cache : List CacheEntry} (opened : List OnShelf) (regs : List Registration) (Q : History) → AreOf opened regs → Standing K true regs [] cache Q → IsLegal K (closed K regs Q)
+few_handed_out : {K : Opening} {cache : CacheMap} (opened : List OnShelf) (regs : List Registration) (Q : History) → AreOf opened regs → Standing K true regs [] cache Q → IsLegal K (closed K regs Q)
 few_handed_out {K = K} {cache = cache} [] regs Q of_shelf s = let P : List Registration → Type 0 = λ gs. IsLegal K (closed K gs Q) in subst P (sym of_shelf) s.legal
 few_handed_out {K = K} {cache = cache} (plug ∷ []) regs Q of_shelf s =
     let P : List Registration → Type 0 = λ gs. IsLegal K (closed K gs Q) in
@@ -195,7 +196,7 @@ after_stop P = P ▸ entry.Stop 0 why.ControlEnd
 abbrev pub at_end : Opening → History → History
 at_end K P = closed K (live (after_stop P)) (after_stop P)
 
-pub run_ends : {K : Opening} {opened shelf : List OnShelf} {writer : Bool} {cache : List CacheEntry} {lines : List Cut} {given : List Given} (O P : History)
+pub run_ends : {K : Opening} {opened shelf : List OnShelf} {writer : Bool} {cache : CacheMap} {lines : List Cut} {given : List Given} (O P : History)
     → RunsOn K opened shelf writer [] cache P → Opens opened [] [] O → ServesLines K (line_says K) lines O given P
     → IsRun K opened shelf lines given (at_end K P)
 run_ends {K = K} {opened = opened} {cache = cache} {lines = lines} {given = given} O P s opens serves = record {

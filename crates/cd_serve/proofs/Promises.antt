@@ -10,6 +10,8 @@ use Rattle.cd_sock.specs.Lines.{Cut}
 use Rattle.cd_history.specs.History.{Event, History}
 use Rattle.cd_history.specs.Registrations.{has_kind}
 use Rattle.cd_daemon.specs.declared.Opening.{Opening}
+use Rattle.cd_cache.specs.Cache.{empty}
+use Rattle.cd_daemon.specs.declared.TheConstants.{TIMEOUT}
 use Rattle.cd_daemon.specs.Answers.{is_reserved}
 use Rattle.cd_dialogue.specs.declared.ends.DialogueFault.{DialogueFault}
 use Rattle.cd_dialogue.specs.declared.ends.DialogueFault.TheVariants as faults
@@ -17,7 +19,7 @@ use Rattle.cd_dialogue.specs.declared.ends.InputEnd.{InputEnd}
 use Rattle.cd_dialogue.specs.declared.ends.InputEnd.TheVariants as input
 use Rattle.cd_dialogue.specs.Served.{Served}
 use Rattle.cd_dialogue.specs.Dialogues.{ServesInput}
-use Rattle.cd_dialogue.specs.Inputs.{lines_within}
+use Rattle.cd_dialogue.specs.Inputs.{MemoryLacked, lines_within}
 use Rattle.cd_dialogue.proofs.Breaking.{begins_none}
 use Rattle.cd_io.proofs.Speaking.{spoke_nothing}
 use Rattle.cd_history.specs.declared.given.Given.{Given}
@@ -43,12 +45,12 @@ writes_alike : (t : Bool) (plug : OnShelf) → has_kind WRITE (registration_of p
 writes_alike true plug is = record { writes = is; plugged = refl }
 writes_alike false plug is = rw is refl
 
-begins_run : (K : Opening) (shelf : List OnShelf) → length shelf ≤ 1 → RunsOn K shelf shelf (writes_first shelf) [] [] (registered shelf [])
+begins_run : (K : Opening) (shelf : List OnShelf) → length shelf ≤ 1 → RunsOn K shelf shelf (writes_first shelf) [] (empty TIMEOUT) (registered shelf [])
 begins_run K [] few = run_begins_empty K
 begins_run K (plug ∷ []) few = by (is_reserved plug.name) refl
   where
     R : Bool → Type 0
-    R writer = RunsOn K (plug ∷ []) (plug ∷ []) writer [] [] (registered (plug ∷ []) [])
+    R writer = RunsOn K (plug ∷ []) (plug ∷ []) writer [] (empty TIMEOUT) (registered (plug ∷ []) [])
 
     by : (t : Bool) → is_reserved plug.name ≡ t → R (not (is_reserved plug.name) && has_kind WRITE (registration_of plug))
     by true is = subst R (ap (λ (t : Bool). not t && has_kind WRITE (registration_of plug)) (sym is)) (run_begins_refused K plug is)
@@ -199,6 +201,16 @@ module _ {D : Type 0} (view : D → Seen) (shelf : List OnShelf) (pairs : Pairs)
     run_completed (Err faults.Link) s fine within = absurd (fine s.broke.rose)
     run_completed (Err faults.Memory) s fine within = inr refl
 
+    pub run_promised_as : (result : Result InputEnd DialogueFault) → ServesInput (Serves view) gives_up first last before after INPUT_LIMIT result
+        → (end : End) → end ≡ end_of result → Promises shelf (view last).shelf (view last).given pairs before after end
+    run_promised_as result s end is =
+        subst (Promises shelf (view last).shelf (view last).given pairs before after) (sym is) (run_promised result s)
+
+    pub run_completed_as : (result : Result InputEnd DialogueFault) → ServesInput (Serves view) gives_up first last before after INPUT_LIMIT result
+        → (end : End) → end ≡ end_of result → (Rose before.faults after.faults → ⊥) → IsWithin before after → (end ≡ ends.Done) ⊎ (end ≡ ends.Memory)
+    run_completed_as result s end is fine within =
+        subst (λ (e : End). (e ≡ ends.Done) ⊎ (e ≡ ends.Memory)) (sym is) (run_completed result s fine within)
+
 pub never_usage : (result : Result InputEnd DialogueFault) → end_of result ≡ ends.Usage → ⊥
 never_usage (Ok input.Ended) e = cc
 never_usage (Ok input.TooLong) e = cc
@@ -206,8 +218,8 @@ never_usage (Err faults.Link) e = cc
 never_usage (Err faults.Memory) e = cc
 
 -- memory was lacking before anything was done
-pub nothing_served : (shelf back : List OnShelf) (given : List Given) (pairs : Pairs) (link : LinkTells) → Promises shelf back given pairs link link ends.Memory
-nothing_served shelf back given pairs link = record {
+pub nothing_served : (shelf : List OnShelf) (link : LinkTells) → MemoryLacked (HasBegun shelf) INPUT_LIMIT link link
+nothing_served shelf link = record {
   heard = [];
   lines = [];
   first = begins_none (lines_within INPUT_LIMIT []);

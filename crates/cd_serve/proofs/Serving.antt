@@ -7,7 +7,7 @@ use Rattle.cd_value.specs.declared.data.ValueList.{ValueList}
 use Rattle.cd_value.specs.declared.data.DataSet.{DataSet}
 use Rattle.cd_value.specs.Identifier.{Fields, name_of}
 use Rattle.cd_types.specs.Types.{fits}
-use Rattle.cd_cache.specs.declared.entry.CacheEntry.{CacheEntry}
+use Rattle.cd_cache.specs.Cache.{CacheMap}
 use Rattle.cd_cache.specs.Cache.{cached}
 use Rattle.cd_cache.specs.Rows.{rows_of}
 use Rattle.cd_sock.specs.declared.command.Command.{Command}
@@ -16,12 +16,12 @@ use Rattle.cd_sock.specs.declared.fault.LineFault.{LineFault}
 use Rattle.cd_sock.specs.declared.fault.LineFault.TheVariants as faults
 use Rattle.cd_sock.specs.declared.reply.Reply.{Reply}
 use Rattle.cd_sock.specs.declared.reply.Reply.TheVariants as reply
-use Rattle.cd_reading.specs.Gives.{Refuses}
-use Rattle.cd_sock.specs.Faults.{line_fault as fault_of}
+use Rattle.std.specs.Prelude.{IsOkAnd}
+use Rattle.cd_reading.specs.Gives.{Gives, Refuses}
+use Rattle.cd_sock.specs.Faults.{line_fault}
 use Rattle.cd_sock.specs.Lines.{Cut}
 use Rattle.cd_sock.specs.Replies.{reply_text}
-use Rattle.cd_sock.specs.Meaning.{meaning, is_blank_line, ListsFit}
-use Rattle.cd_sock.proofs.Laws.{same_fault, same_get_val, same_list_val, same_put_val, blank_line, blank_only}
+use Rattle.cd_sock.specs.Meaning.{meaning, IsSameButTimes, ListsFit}
 use Rattle.cd_history.specs.declared.entry.Entry.TheVariants as entry
 use Rattle.cd_history.specs.declared.entry.Found.{Found}
 use Rattle.cd_history.specs.declared.entry.Stopping.{Stopping}
@@ -34,7 +34,7 @@ use Rattle.cd_transcript.specs.Transcripts.{Said, line_says, IsTranscript, of_li
 use Rattle.cd_transcript.specs.LineRuns.{ServesLines, Works, IsAsked, nothing, blank, refused, put, got, listed, one_more}
 use Rattle.cd_transcript.proofs.Events.{written_more, blank_writes, refused_writes, put_writes, got_writes, listed_writes}
 use Rattle.cd_daemon.specs.declared.TheConstants.{INTERVAL}
-use Rattle.cd_serve.specs.Working.Progress.{Seen, opening_of, HasServed, IsWorking, with_moment, Puts, Obeys, Serves}
+use Rattle.cd_serve.specs.Working.Progress.{Seen, opening_of, HasServed, IsWorking, with_moment, Puts, Obeys, Serves, IsNotBlank}
 use Rattle.cd_serve.proofs.Gifts.{gave_moment, gave_words}
 use Rattle.cd_serve.proofs.Steps.{accepted_ok, works_on}
 use Rattle.cd_serve.proofs.Shelves.{run_accepts, run_asks}
@@ -100,7 +100,7 @@ module _ (begun : Seen) (lines : List Cut) (text : List ℕ) (old : Seen) (h : H
       opens = h.opens;
       runs = run_asks None h.runs;
       serves = one_more h.serves (listed is (works_on (run_asks None h.runs).standing nothing));
-      written = let W : List CacheEntry → Type 0 = λ cache. IsTranscript (line_says (opening_of begun)) (lines ++ line ∷ []) (of_lines (h.past ▸ entry.Query 0 None (query_answer (opening_of begun) h.past None))) (text ++ reply_text (reply.Listed (rows_of cache))) in
+      written = let W : CacheMap → Type 0 = λ cache. IsTranscript (line_says (opening_of begun)) (lines ++ line ∷ []) (of_lines (h.past ▸ entry.Query 0 None (query_answer (opening_of begun) h.past None))) (text ++ reply_text (reply.Listed (rows_of cache))) in
           subst W h.runs.standing.caches (written_more _ h.written (listed_writes _ {K = opening_of begun} line h.past _ 0 _ is (still _)));
       gave = gave_moment begun.pairs old.pairs old.given now h.gave at;
     }
@@ -151,78 +151,82 @@ module _ (begun : Seen) (lines : List Cut) (text : List ℕ) (old : Seen) (h : H
 along_types : (types begun : List DataSet) (now : ℕ) (bytes : List ℕ) (said : Said) → types ≡ begun → meaning types now INTERVAL bytes ≡ said → meaning begun now INTERVAL bytes ≡ said
 along_types types begun now bytes said same is = let M : List DataSet → Type 0 = λ ts. meaning ts now INTERVAL bytes ≡ said in subst M same is
 
+-- what a line that offers lists, asks for a name or for all says at another moment
+module _ (types : List DataSet) (bytes : List ℕ) where
+  some_command : (command : Command) (read : Said) → IsOkAnd read (IsSameButTimes command) → (other : Command) × (read ≡ Ok other) × IsSameButTimes command other
+  some_command command (Ok other) h = (other, refl, h)
+  some_command command (Err e) h = absurd h
+
+  put_at_zero : (lists : List ValueList) (read : Said) → IsOkAnd read (IsSameButTimes (command.PutVal lists)) → (at_zero : List ValueList) × (read ≡ Ok (command.PutVal at_zero))
+  put_at_zero lists (Ok command.Blank) h = absurd (cc)
+  put_at_zero lists (Ok (command.PutVal others)) h = (others, refl)
+  put_at_zero lists (Ok (command.GetVal id)) h = absurd (cc)
+  put_at_zero lists (Ok command.ListVal) h = absurd (cc)
+  put_at_zero lists (Err e) h = absurd h
+
 obeyed : (begun : Seen) (lines : List Cut) (text : List ℕ) (old : Seen) (h : HasServed begun lines text old) (bytes : List ℕ) (now : ℕ) (at : IfSome old.pairs.clock (λ pair. now ≡ pair.0))
-    (said : Command) (answer : Reply) (new : Seen) → is_blank_line bytes ≡ false → meaning begun.types now INTERVAL bytes ≡ Ok said → ListsFit old.types said
-    → Obeys said answer (with_moment now old) new → HasServed begun (lines ++ Some bytes ∷ []) (text ++ reply_text answer) new
-obeyed begun lines text old h bytes now at command.Blank answer new not is fit o = (let both : true ≡ false = sym (blank_only begun.types now INTERVAL bytes is) ∙ not in absurd (cc))
-obeyed begun lines text old h bytes now at (command.PutVal lists) answer new not is fit o =
-    let zero = same_put_val begun.types now INTERVAL 0 INTERVAL bytes lists is in
+    (said : Command) (answer : Reply) (new : Seen) → IsNotBlank bytes → meaning begun.types now INTERVAL bytes ≡ Ok said → IsOkAnd (meaning begun.types 0 INTERVAL bytes) (IsSameButTimes said)
+    → ListsFit old.types said → Obeys said answer (with_moment now old) new → HasServed begun (lines ++ Some bytes ∷ []) (text ++ reply_text answer) new
+obeyed begun lines text old h bytes now at command.Blank answer new not is zero fit o = absurd (not begun.types now INTERVAL is)
+obeyed begun lines text old h bytes now at (command.PutVal lists) answer new not is zero fit o =
+    let first = put_at_zero begun.types bytes lists (meaning begun.types 0 INTERVAL bytes) zero in
     let A : Reply → Type 0 = λ a. HasServed begun (lines ++ Some bytes ∷ []) (text ++ reply_text a) new in
-    subst A (sym o.0) (served_put begun lines text old h (Some bytes) now at lists zero.0 new o.1 fit zero.1 is)
-obeyed begun lines text old h bytes now at (command.GetVal id) answer new not is fit o =
+    subst A (sym o.0) (served_put begun lines text old h (Some bytes) now at lists first.0 new o.1 fit first.1 is)
+obeyed begun lines text old h bytes now at (command.GetVal id) answer new not is zero fit o =
+    let first = some_command begun.types bytes (command.GetVal id) (meaning begun.types 0 INTERVAL bytes) zero in
     let A : Reply → Type 0 = λ a. HasServed begun (lines ++ Some bytes ∷ []) (text ++ reply_text a) new in
     let S : Seen → Type 0 = λ s. HasServed begun (lines ++ Some bytes ∷ []) (text ++ reply_text (found_reply (found_in (opening_of old) (cached (name_of id) old.cache)))) s in
-    subst A (sym o.1) (subst S (sym o.0) (served_asked begun lines text old h (Some bytes) now at id (same_get_val begun.types now INTERVAL 0 INTERVAL bytes id is)))
-obeyed begun lines text old h bytes now at command.ListVal answer new not is fit o =
+    subst A (sym o.1) (subst S (sym o.0) (served_asked begun lines text old h (Some bytes) now at id (first.1 ∙ ap Ok (sym first.2))))
+obeyed begun lines text old h bytes now at command.ListVal answer new not is zero fit o =
+    let first = some_command begun.types bytes command.ListVal (meaning begun.types 0 INTERVAL bytes) zero in
     let A : Reply → Type 0 = λ a. HasServed begun (lines ++ Some bytes ∷ []) (text ++ reply_text a) new in
     let S : Seen → Type 0 = λ s. HasServed begun (lines ++ Some bytes ∷ []) (text ++ reply_text (reply.Listed (rows_of old.cache))) s in
-    subst A (sym o.1) (subst S (sym o.0) (served_listed begun lines text old h (Some bytes) now at (same_list_val begun.types now INTERVAL 0 INTERVAL bytes is)))
+    subst A (sym o.1) (subst S (sym o.0) (served_listed begun lines text old h (Some bytes) now at (first.1 ∙ ap Ok (sym first.2))))
 
 module _ (old at_moment : Seen) (now : ℕ) (at : IfSome old.pairs.clock (λ pair. now ≡ pair.0)) (then : at_moment ≡ with_moment now old) where
   same_types : at_moment.types ≡ old.types
   same_types = ap (λ (s : Seen). s.types) then
 
-  pub serves_command : (bytes : List ℕ) (said : Command) (answer : Reply) (new : Seen) → is_blank_line bytes ≡ false → meaning at_moment.types now INTERVAL bytes ≡ Ok said
+  pub serves_command : (bytes : List ℕ) (said : Command) (answer : Reply) (new : Seen) → IsNotBlank bytes → Gives (λ c. c) line_fault (Ok said) (meaning at_moment.types now INTERVAL bytes)
+      → ((later other : ℕ) → IsOkAnd (meaning at_moment.types later other bytes) (IsSameButTimes said))
       → ListsFit at_moment.types said → Obeys said answer at_moment new → Serves (Some bytes) (reply_text answer) old new
-  serves_command bytes said answer new not is fit o begun lines text h =
+  serves_command bytes said answer new not is zero fit o begun lines text h =
       obeyed begun lines text old h bytes now at said answer new not (along_types at_moment.types begun.types now bytes (Ok said) (same_types ∙ h.types) is)
+      (let Z : List DataSet → Type 0 = λ types. IsOkAnd (meaning types 0 INTERVAL bytes) (IsSameButTimes said) in subst Z (same_types ∙ h.types) (zero 0 INTERVAL))
       (let F : List DataSet → Type 0 = λ types. ListsFit types said in subst F same_types fit)
       (let O : Seen → Type 0 = λ s. Obeys said answer s new in subst O then o)
 
-  pub serves_fault : (bytes : List ℕ) (fault : LineFault) → meaning at_moment.types now INTERVAL bytes ≡ Err fault → Serves (Some bytes) (reply_text (reply.Fault fault)) old at_moment
+  pub serves_fault : (bytes : List ℕ) (fault : LineFault) → meaning at_moment.types 0 INTERVAL bytes ≡ Err fault → Serves (Some bytes) (reply_text (reply.Fault fault)) old at_moment
   serves_fault bytes fault is begun lines text h =
       let S : Seen → Type 0 = λ s. HasServed begun (lines ++ Some bytes ∷ []) (text ++ reply_text (reply.Fault fault)) s in
       subst S (sym then) (served_refused begun lines text old h (Some bytes) now at fault
-      (same_fault begun.types now INTERVAL 0 INTERVAL bytes fault (along_types at_moment.types begun.types now bytes (Err fault) (same_types ∙ h.types) is)))
+      (along_types at_moment.types begun.types 0 bytes (Err fault) (same_types ∙ h.types) is))
 
   pub serves_too_long : Serves None (reply_text (reply.Fault faults.LineTooLong)) old at_moment
   serves_too_long begun lines text h =
       let S : Seen → Type 0 = λ s. HasServed begun (lines ++ None ∷ []) (text ++ reply_text (reply.Fault faults.LineTooLong)) s in
       subst S (sym then) (served_refused begun lines text old h None now at faults.LineTooLong refl)
 
-pub serves_blank : (old : Seen) (bytes : List ℕ) → is_blank_line bytes ≡ true → Serves (Some bytes) [] old old
-serves_blank old bytes is begun lines text h = served_blank begun lines text old h (Some bytes) (blank_line begun.types 0 INTERVAL bytes is)
+serves_blank : (old : Seen) (bytes : List ℕ) → ((types : List DataSet) (now interval : ℕ) → meaning types now interval bytes ≡ Ok command.Blank) → Serves (Some bytes) [] old old
+serves_blank old bytes is begun lines text h = served_blank begun lines text old h (Some bytes) (is begun.types 0 INTERVAL)
 
--- a fault other than want of memory
-pub known_fault : (fault : LineFault) → (fault ≡ faults.Memory → ⊥) → fault_of fault ≡ Some fault
-known_fault faults.Memory not = absurd (not refl)
-known_fault faults.LineTooLong not = refl
-known_fault faults.NotUtf8 not = refl
-known_fault faults.UnterminatedQuote not = refl
-known_fault faults.UnknownCommand not = refl
-known_fault faults.MissingArgument not = refl
-known_fault faults.BadIdentifier not = refl
-known_fault faults.UnknownType not = refl
-known_fault faults.BadOption not = refl
-known_fault faults.BadTime not = refl
-known_fault faults.WrongNumberOfValues not = refl
-known_fault faults.BadValue not = refl
-
-pub refuses_known : {A : Type 0} (fault : LineFault) (read : Result A LineFault) → fault_of fault ≡ Some fault → Refuses (fault_of fault) read → read ≡ Err fault
+refuses_known : {A : Type 0} (fault : LineFault) (read : Result A LineFault) → line_fault fault ≡ Some fault → Refuses (line_fault fault) read → read ≡ Err fault
 refuses_known fault read known is = let R : Option LineFault → Type 0 = λ f. Refuses f read in subst R known is
 
 pub on_printed : {E : Type 0} (r : Result (List ℕ) E) (text : List ℕ) (line : Cut) (old new : Seen) → Serves line text old new → IfOk r (λ t. t ≡ text) → IfOk r (λ t. Serves line t old new)
 on_printed (Ok t) text line old new s is = let S : List ℕ → Type 0 = λ t. Serves line t old new in subst S (sym is) s
 on_printed (Err e) text line old new s is = tt
 
-pub serves_blank_as : (old : Seen) (bytes : List ℕ) (line : Cut) (reply : List ℕ) → line ≡ Some bytes → reply ≡ [] → is_blank_line bytes ≡ true → Serves line reply old old
+-- a line that is blank at each moment
+pub serves_blank_as : (old : Seen) (bytes : List ℕ) (line : Cut) (reply : List ℕ) → line ≡ Some bytes → reply ≡ []
+    → ((types : List DataSet) (now interval : ℕ) → meaning types now interval bytes ≡ Ok command.Blank) → Serves line reply old old
 serves_blank_as old bytes line reply is empty are =
     let L : Cut → Type 0 = λ l. Serves l reply old old in
     let R : List ℕ → Type 0 = λ r. Serves (Some bytes) r old old in
     subst L (sym is) (subst R (sym empty) (serves_blank old bytes are))
 
 pub serves_refusal : (old at_moment : Seen) (now : ℕ) (bytes : List ℕ) (fault : LineFault) (answer : Reply) → IfSome old.pairs.clock (λ pair. now ≡ pair.0) → at_moment ≡ with_moment now old
-    → answer ≡ reply.Fault fault → fault_of fault ≡ Some fault → Refuses (fault_of fault) (meaning at_moment.types now INTERVAL bytes) → Serves (Some bytes) (reply_text answer) old at_moment
+    → answer ≡ reply.Fault fault → line_fault fault ≡ Some fault → ((later other : ℕ) → Refuses (line_fault fault) (meaning at_moment.types later other bytes)) → Serves (Some bytes) (reply_text answer) old at_moment
 serves_refusal old at_moment now bytes fault answer at then is known refuses =
     let A : Reply → Type 0 = λ a. Serves (Some bytes) (reply_text a) old at_moment in
-    subst A (sym is) (serves_fault old at_moment now at then bytes fault (refuses_known fault _ known refuses))
+    subst A (sym is) (serves_fault old at_moment now at then bytes fault (refuses_known fault _ known (refuses 0 INTERVAL)))

@@ -17,12 +17,13 @@ use Rattle.cd_registry.specs.declared.kinds.TheConstants.Kinds.{WRITE}
 use Rattle.cd_history.specs.Registrations.{Registration, registrations, listening, is_text, has_kind}
 use Rattle.cd_history.specs.Leases.{answers_to}
 use Rattle.cd_daemon.specs.declared.Opening.{Opening}
-use Rattle.cd_cache.specs.declared.entry.CacheEntry.{CacheEntry}
+use Rattle.cd_cache.specs.Cache.{CacheMap}
 use Rattle.cd_daemon.specs.Handling.{stored}
 use Rattle.cd_daemon.specs.Calls.{calls_to, answered, answered_as, answered_calls}
 use Rattle.cd_daemon.specs.Answers.{accept_answer, handle_answer, query_answer}
 use Rattle.cd_transcript.specs.LineRuns.{OnShelf, returned}
-use Rattle.cd_serve.specs.Working.Standing.{Standing, IsWriter, registration_of, RunsOn, called_first}
+use Rattle.cd_serve.specs.Working.Standing.{Standing, IsWriter, registration_of, RunsOn}
+use Rattle.cd_serve.specs.Working.Outside.{called_first}
 use Rattle.cd_serve.proofs.Steps.{accepts, asks, handles_unwritten, handles_written, after_done, calls_to-after_done, same_number, live-is, calls_to-unwritten}
 
 pub bytes_same : (xs : List ℕ) → bytes_eq xs xs ≡ true
@@ -74,7 +75,7 @@ own-answered K P g name same regs =
     ∙ rw (same, bytes_same name, append-nil (answered K g.number P)) refl
 
 -- a write that was answered is told behind the others
-pub told-written : (K : Opening) (g : Registration) (P : History) (v : ValueList) (queue : List ValueList) (cache : List CacheEntry) (now : ℕ) (answer : Answer) (name : List ℕ) (t : PlugTells)
+pub told-written : (K : Opening) (g : Registration) (P : History) (v : ValueList) (queue : List ValueList) (cache : CacheMap) (now : ℕ) (answer : Answer) (name : List ℕ) (t : PlugTells)
     → Standing K false (g ∷ []) (v ∷ queue) cache P → IsWriter g → g.name ≡ name
     → told_after_all (answered_as K name (after_done K false g P v queue cache now answer)) t ≡ told_after (calls.Write v) answer (told_after_all (answered_as K name P) t)
 told-written K g P v queue cache now answer name t s w same =
@@ -96,7 +97,7 @@ told-written K g P v queue cache now answer name t s w same =
 
 -- ---- the steps of a run
 
-pub run_accepts : {K : Opening} {opened shelf : List OnShelf} {writer : Bool} {cache : List CacheEntry} {P : History} (lists : List ValueList) (words : List ℕ) (now : ℕ)
+pub run_accepts : {K : Opening} {opened shelf : List OnShelf} {writer : Bool} {cache : CacheMap} {P : History} (lists : List ValueList) (words : List ℕ) (now : ℕ)
     → RunsOn K opened shelf writer [] cache P → IsTrue (list_all (fits K.types) lists) → length words ≡ length lists
     → RunsOn K opened shelf writer lists cache (P ▸ entry.Accept 0 lists words now (accept_answer K P lists words))
 run_accepts {K = K} {opened = opened} {P = P} lists words now s fit many = record {
@@ -108,10 +109,10 @@ run_accepts {K = K} {opened = opened} {P = P} lists words now s fit many = recor
 }
 
 -- nobody is written to
-pub nobody_listens : {K : Opening} {opened shelf : List OnShelf} {queue : List ValueList} {cache : List CacheEntry} {P : History} → RunsOn K opened shelf false queue cache P → listening WRITE P ≡ []
+pub nobody_listens : {K : Opening} {opened shelf : List OnShelf} {queue : List ValueList} {cache : CacheMap} {P : History} → RunsOn K opened shelf false queue cache P → listening WRITE P ≡ []
 nobody_listens s = ap (λ (gs : List Registration). map (λ g. g.number) (filter (has_kind WRITE) gs)) (live-is s.standing) ∙ ap (map (λ (g : Registration). g.number)) s.writes
 
-pub run_handles_unwritten : {K : Opening} {opened shelf : List OnShelf} {queue : List ValueList} {cache : List CacheEntry} {P : History} (v : ValueList) (now : ℕ)
+pub run_handles_unwritten : {K : Opening} {opened shelf : List OnShelf} {queue : List ValueList} {cache : CacheMap} {P : History} (v : ValueList) (now : ℕ)
     → RunsOn K opened shelf false (v ∷ queue) cache P
     → RunsOn K opened shelf false queue (stored K v now cache) (P ▸ entry.Handle 0 now (handle_answer K P now))
 run_handles_unwritten {K = K} {opened = opened} {queue = queue} {P = P} v now s = record {
@@ -123,7 +124,7 @@ run_handles_unwritten {K = K} {opened = opened} {queue = queue} {P = P} v now s 
 }
 
 -- a written list leaves this history of a run with one plug-in
-pub run_handles_written : (K : Opening) (plug : OnShelf) (shelf : List OnShelf) (queue : List ValueList) (cache : List CacheEntry) (P : History) (v : ValueList) (now : ℕ) (answer : Answer)
+pub run_handles_written : (K : Opening) (plug : OnShelf) (shelf : List OnShelf) (queue : List ValueList) (cache : CacheMap) (P : History) (v : ValueList) (now : ℕ) (answer : Answer)
     → RunsOn K (plug ∷ []) shelf true (v ∷ queue) cache P → Standing K false (registration_of plug ∷ []) (v ∷ queue) cache P → IsWriter (registration_of plug)
     → RunsOn K (plug ∷ []) (called_first (calls.Write v) answer shelf) true queue (stored K v now cache) (after_done K false (registration_of plug) P v queue cache now answer)
 run_handles_written K plug shelf queue cache P v now answer s standing writer = record {
@@ -137,7 +138,7 @@ run_handles_written K plug shelf queue cache P v now answer s standing writer = 
       (sym (told-written K (registration_of plug) P v queue cache now answer plug.name plug.tells standing writer refl));
 }
 
-pub run_asks : {K : Opening} {opened shelf : List OnShelf} {writer : Bool} {cache : List CacheEntry} {P : History} (name : Option (List ℕ))
+pub run_asks : {K : Opening} {opened shelf : List OnShelf} {writer : Bool} {cache : CacheMap} {P : History} (name : Option (List ℕ))
     → RunsOn K opened shelf writer [] cache P → RunsOn K opened shelf writer [] cache (P ▸ entry.Query 0 name (query_answer K P name))
 run_asks {K = K} {opened = opened} {P = P} name s = record {
   regs = s.regs;

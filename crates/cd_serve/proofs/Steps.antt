@@ -18,7 +18,7 @@ use Rattle.cd_registry.specs.declared.kinds.TheConstants.Kinds.{WRITE}
 use Rattle.cd_history.specs.Registrations.{Registration, registrations, live, listening, is_closed, is_retired, is_plug}
 use Rattle.cd_history.specs.Leases.{takes, answers_to, taken_by}
 use Rattle.cd_daemon.specs.declared.Opening.{Opening}
-use Rattle.cd_cache.specs.declared.entry.CacheEntry.{CacheEntry}
+use Rattle.cd_cache.specs.Cache.{CacheMap}
 use Rattle.cd_daemon.specs.Handling.{Handling, Post, to_each, stored, handling, handling_if_any, next_list, next_handling}
 use Rattle.cd_daemon.specs.Calls.{cache_after}
 use Rattle.cd_daemon.specs.Calls.{calls_to, pending, sent_to}
@@ -42,32 +42,32 @@ same_number n = grind arith
 
 -- ---- nobody is ready where no call waits
 
-none_pending : {K : Opening} {stopped : Bool} {regs : List Registration} {queue : List ValueList} {cache : List CacheEntry} {P : History} → Standing K stopped regs queue cache P → (r : ℕ) → pending K P r ≡ 0
+none_pending : {K : Opening} {stopped : Bool} {regs : List Registration} {queue : List ValueList} {cache : CacheMap} {P : History} → Standing K stopped regs queue cache P → (r : ℕ) → pending K P r ≡ 0
 none_pending {K = K} {P = P} s r = omega (arith, s.taken r)
 
-not_ready : {K : Opening} {stopped : Bool} {regs : List Registration} {queue : List ValueList} {cache : List CacheEntry} {P : History} → Standing K stopped regs queue cache P → (g : Registration) → is_ready K P g ≡ false
+not_ready : {K : Opening} {stopped : Bool} {regs : List Registration} {queue : List ValueList} {cache : CacheMap} {P : History} → Standing K stopped regs queue cache P → (g : Registration) → is_ready K P g ≡ false
 not_ready {K = K} {P = P} s g = rw (none_pending s g.number) (last (is_plug g.joining) (not (is_retired g.number P)) _)
   where
     last : (a b c : Bool) → (a && b && c && false) ≡ false
     last a b c = grind arith
 
-pub none_ready : {K : Opening} {stopped : Bool} {regs : List Registration} {queue : List ValueList} {cache : List CacheEntry} {P : History} → Standing K stopped regs queue cache P → ready K P ≡ None
+pub none_ready : {K : Opening} {stopped : Bool} {regs : List Registration} {queue : List ValueList} {cache : CacheMap} {P : History} → Standing K stopped regs queue cache P → ready K P ≡ None
 none_ready {K = K} {P = P} s = found (registrations P)
   where
     found : (gs : List Registration) → elim (find (is_ready K P) gs) as (λ o. Option ℕ) [ None ↦ None | Some g ↦ Some g.number ] ≡ None
     found [] = refl
     found (g ∷ gs) = rw (not_ready s g) (found gs)
 
-idle : {K : Opening} {stopped : Bool} {regs : List Registration} {cache : List CacheEntry} {P : History} → Standing K stopped regs [] cache P → IsTrue (is_idle K P)
+idle : {K : Opening} {stopped : Bool} {regs : List Registration} {cache : CacheMap} {P : History} → Standing K stopped regs [] cache P → IsTrue (is_idle K P)
 idle {K = K} {P = P} s = rw (none_ready s, s.queued, append-nil s.earlier, s.counted) (within (length s.earlier))
   where
     within : (n : ℕ) → IsTrue (nat_le n n && true)
     within n = grind arith
 
-pub works_on : {K : Opening} {stopped : Bool} {regs : List Registration} {cache : List CacheEntry} {P Q : History} {given : List Given} → Standing K stopped regs [] cache Q → Works K IsAsked P given Q → WorksUntilIdle K IsAsked P given Q
+pub works_on : {K : Opening} {stopped : Bool} {regs : List Registration} {cache : CacheMap} {P Q : History} {given : List Given} → Standing K stopped regs [] cache Q → Works K IsAsked P given Q → WorksUntilIdle K IsAsked P given Q
 works_on s w = record { works = w; idle = idle s }
 
-pub all_handled : {K : Opening} {stopped : Bool} {regs : List Registration} {cache : List CacheEntry} {P : History} → Standing K stopped regs [] cache P → handles P ≡ length (kept P)
+pub all_handled : {K : Opening} {stopped : Bool} {regs : List Registration} {cache : CacheMap} {P : History} → Standing K stopped regs [] cache P → handles P ≡ length (kept P)
 all_handled s = s.counted ∙ ap length (sym (s.queued ∙ append-nil s.earlier))
 
 -- ---- an entry that makes no call
@@ -77,10 +77,10 @@ quiet xs = append-nil xs
 
 -- ---- lists are accepted
 
-pub accepted_ok : {K : Opening} {regs : List Registration} {cache : List CacheEntry} {P : History} (lists : List ValueList) (words : List ℕ) → Standing K false regs [] cache P → accept_answer K P lists words ≡ Ok (map (λ list. Kept) lists)
+pub accepted_ok : {K : Opening} {regs : List Registration} {cache : CacheMap} {P : History} (lists : List ValueList) (words : List ℕ) → Standing K false regs [] cache P → accept_answer K P lists words ≡ Ok (map (λ list. Kept) lists)
 accepted_ok lists words s = rw s.is_so refl
 
-pub accepts : {K : Opening} {regs : List Registration} {cache : List CacheEntry} {P : History} (lists : List ValueList) (words : List ℕ) (now : ℕ)
+pub accepts : {K : Opening} {regs : List Registration} {cache : CacheMap} {P : History} (lists : List ValueList) (words : List ℕ) (now : ℕ)
     → Standing K false regs [] cache P → IsTrue (list_all (fits K.types) lists) → length words ≡ length lists
     → Standing K false regs lists cache (P ▸ entry.Accept 0 lists words now (accept_answer K P lists words))
 accepts {K = K} {regs = regs} {cache = cache} {P = P} lists words now s fit many =
@@ -101,38 +101,38 @@ accepts {K = K} {regs = regs} {cache = cache} {P = P} lists words now s fit many
 
 -- ---- a list is handled
 
-pub next_is : {K : Opening} {stopped : Bool} {regs : List Registration} {cache : List CacheEntry} {P : History} (v : ValueList) (queue : List ValueList) → Standing K stopped regs (v ∷ queue) cache P → next_list P ≡ Some v
+pub next_is : {K : Opening} {stopped : Bool} {regs : List Registration} {cache : CacheMap} {P : History} (v : ValueList) (queue : List ValueList) → Standing K stopped regs (v ∷ queue) cache P → next_list P ≡ Some v
 next_is v queue s = rw (s.queued, s.counted) (seam s.earlier v queue)
 
 -- what the next Handle does
-handles-as : {K : Opening} {stopped : Bool} {regs : List Registration} {cache : List CacheEntry} {P : History} (v : ValueList) (queue : List ValueList) (now : ℕ)
+handles-as : {K : Opening} {stopped : Bool} {regs : List Registration} {cache : CacheMap} {P : History} (v : ValueList) (queue : List ValueList) (now : ℕ)
     → Standing K stopped regs (v ∷ queue) cache P → next_handling K (cache_after K P) P now ≡ handling K cache (live P) v now
 handles-as {K = K} {cache = cache} {P = P} v queue now s =
     ap (λ (next : Option ValueList). handling_if_any K (cache_after K P) (live P) next now) (next_is v queue s)
-    ∙ ap (λ (c : List CacheEntry). handling K c (live P) v now) s.caches
+    ∙ ap (λ (c : CacheMap). handling K c (live P) v now) s.caches
 
 -- the cache after the next list
-stored_next : {K : Opening} {stopped : Bool} {regs : List Registration} {cache : List CacheEntry} {P : History} (v : ValueList) (queue : List ValueList) (now : ℕ)
+stored_next : {K : Opening} {stopped : Bool} {regs : List Registration} {cache : CacheMap} {P : History} (v : ValueList) (queue : List ValueList) (now : ℕ)
     → Standing K stopped regs (v ∷ queue) cache P → (next_handling K (cache_after K P) P now).cache ≡ stored K v now cache
 stored_next v queue now s = ap (λ (h : Handling). h.cache) (handles-as v queue now s)
 
 -- the calls that it makes
-posts_next : {K : Opening} {stopped : Bool} {regs : List Registration} {cache : List CacheEntry} {P : History} (v : ValueList) (queue : List ValueList) (now : ℕ)
+posts_next : {K : Opening} {stopped : Bool} {regs : List Registration} {cache : CacheMap} {P : History} (v : ValueList) (queue : List ValueList) (now : ℕ)
     → Standing K stopped regs (v ∷ queue) cache P → (next_handling K (cache_after K P) P now).posts ≡ to_each (listening WRITE P) (calls.Write v)
 posts_next v queue now s = ap (λ (h : Handling). h.posts) (handles-as v queue now s)
 
-pub one_queued : {K : Opening} {stopped : Bool} {regs : List Registration} {cache : List CacheEntry} {P : History} (v : ValueList) (queue : List ValueList) → Standing K stopped regs (v ∷ queue) cache P → handles P < length (kept P)
+pub one_queued : {K : Opening} {stopped : Bool} {regs : List Registration} {cache : CacheMap} {P : History} (v : ValueList) (queue : List ValueList) → Standing K stopped regs (v ∷ queue) cache P → handles P < length (kept P)
 one_queued v queue s = rw (s.queued, s.counted) (omega (arith, length-append s.earlier (v ∷ queue)))
 
 one_more : (xs : List ValueList) (v : ValueList) → length xs + 1 ≡ length (xs ++ v ∷ [])
 one_more xs v = omega (arith, length-append xs (v ∷ []))
 
 -- where nobody is written to no call is made
-pub calls_to-unwritten : {K : Opening} {stopped : Bool} {regs : List Registration} {cache : List CacheEntry} {P : History} (v : ValueList) (queue : List ValueList) (now : ℕ)
+pub calls_to-unwritten : {K : Opening} {stopped : Bool} {regs : List Registration} {cache : CacheMap} {P : History} (v : ValueList) (queue : List ValueList) (now : ℕ)
     → Standing K stopped regs (v ∷ queue) cache P → listening WRITE P ≡ [] → (r : ℕ) → calls_to K r (P ▸ entry.Handle 0 now (handle_answer K P now)) ≡ calls_to K r P
 calls_to-unwritten {K = K} {P = P} v queue now s nobody r = rw (posts_next v queue now s, nobody) (quiet (calls_to K r P))
 
-pub handles_unwritten : {K : Opening} {stopped : Bool} {regs : List Registration} {cache : List CacheEntry} {P : History} (v : ValueList) (queue : List ValueList) (now : ℕ)
+pub handles_unwritten : {K : Opening} {stopped : Bool} {regs : List Registration} {cache : CacheMap} {P : History} (v : ValueList) (queue : List ValueList) (now : ℕ)
     → Standing K stopped regs (v ∷ queue) cache P → listening WRITE P ≡ []
     → Standing K stopped regs queue (stored K v now cache) (P ▸ entry.Handle 0 now (handle_answer K P now))
 handles_unwritten {K = K} {P = P} v queue now s nobody = record {
@@ -151,17 +151,17 @@ handles_unwritten {K = K} {P = P} v queue now s nobody = record {
 }
 
 -- all registrations are live
-pub live-is : {K : Opening} {stopped : Bool} {regs : List Registration} {queue : List ValueList} {cache : List CacheEntry} {P : History} → Standing K stopped regs queue cache P → live P ≡ regs
+pub live-is : {K : Opening} {stopped : Bool} {regs : List Registration} {queue : List ValueList} {cache : CacheMap} {P : History} → Standing K stopped regs queue cache P → live P ≡ regs
 live-is {regs = regs} {P = P} s = ap (filter (λ g. not (is_closed g.number P))) s.registers ∙ all_pass regs
   where
     all_pass : (gs : List Registration) → filter (λ g. not (is_closed g.number P)) gs ≡ gs
     all_pass [] = refl
     all_pass (g ∷ gs) = rw (s.unclosed g.number, all_pass gs) refl
 
-live_one : {K : Opening} {stopped : Bool} {g : Registration} {queue : List ValueList} {cache : List CacheEntry} {P : History} → Standing K stopped (g ∷ []) queue cache P → live P ≡ g ∷ []
+live_one : {K : Opening} {stopped : Bool} {g : Registration} {queue : List ValueList} {cache : CacheMap} {P : History} → Standing K stopped (g ∷ []) queue cache P → live P ≡ g ∷ []
 live_one s = live-is s
 
-pub listens : {K : Opening} {stopped : Bool} {g : Registration} {queue : List ValueList} {cache : List CacheEntry} {P : History} → Standing K stopped (g ∷ []) queue cache P → IsWriter g → listening WRITE P ≡ g.number ∷ []
+pub listens : {K : Opening} {stopped : Bool} {g : Registration} {queue : List ValueList} {cache : CacheMap} {P : History} → Standing K stopped (g ∷ []) queue cache P → IsWriter g → listening WRITE P ≡ g.number ∷ []
 listens s w = rw (live_one s, w.writes) refl
 
 -- the calls to r after a write to a registration
@@ -179,7 +179,7 @@ ready_first : (K : Opening) (Q : History) (g : Registration) → registrations Q
 ready_first K Q g is able =
     ap (λ (gs : List Registration). elim (find (is_ready K Q) gs) as (λ o. Option ℕ) [ None ↦ None | Some x ↦ Some x.number ]) is ∙ rw able refl
 
-module _ (K : Opening) (stopped : Bool) (g : Registration) (P : History) (v : ValueList) (queue : List ValueList) (cache : List CacheEntry) (now : ℕ) (answer : Answer) where
+module _ (K : Opening) (stopped : Bool) (g : Registration) (P : History) (v : ValueList) (queue : List ValueList) (cache : CacheMap) (now : ℕ) (answer : Answer) where
   abbrev pub after_handle : History
   after_handle = P ▸ entry.Handle 0 now (handle_answer K P now)
 
@@ -245,7 +245,7 @@ module _ (K : Opening) (stopped : Bool) (g : Registration) (P : History) (v : Va
 
 -- ---- a query
 
-pub asks : {K : Opening} {stopped : Bool} {regs : List Registration} {queue : List ValueList} {cache : List CacheEntry} {P : History} (name : Option (List ℕ))
+pub asks : {K : Opening} {stopped : Bool} {regs : List Registration} {queue : List ValueList} {cache : CacheMap} {P : History} (name : Option (List ℕ))
     → Standing K stopped regs queue cache P → Standing K stopped regs queue cache (P ▸ entry.Query 0 name (query_answer K P name))
 asks {K = K} {P = P} name s = record {
   legal = (s.legal, refl);

@@ -6,7 +6,7 @@ use Rattle.std.specs.Option.{option_map}
 use Rattle.cd_value.specs.declared.data.ValueList.{ValueList}
 use Rattle.cd_registry.specs.declared.calls.Answer.{Answer}
 use Rattle.cd_registry.specs.declared.calls.Call.TheVariants as calls
-use Rattle.cd_cache.specs.declared.entry.CacheEntry.{CacheEntry}
+use Rattle.cd_cache.specs.Cache.{CacheMap}
 use Rattle.cd_history.specs.declared.entry.Entry.TheVariants as entry
 use Rattle.cd_history.specs.declared.given.Given.{Given}
 use Rattle.cd_history.specs.declared.given.Given.TheVariants.{Now, Word, Answered}
@@ -15,7 +15,8 @@ use Rattle.cd_history.specs.Registrations.{Registration}
 use Rattle.cd_daemon.specs.Answers.{handle_answer}
 use Rattle.cd_daemon.specs.Handling.{stored}
 use Rattle.cd_transcript.specs.LineRuns.{OnShelf, returned, handled}
-use Rattle.cd_serve.specs.Working.Standing.{Standing, IsWriter, registration_of, AreOf, Writes, RunsOn, called_first}
+use Rattle.cd_serve.specs.Working.Standing.{Standing, IsWriter, registration_of, AreOf, Writes, RunsOn}
+use Rattle.cd_serve.specs.Working.Outside.{called_first}
 use Rattle.cd_serve.specs.Tells.{Gave}
 use Rattle.cd_serve.specs.Working.Progress.{Seen, opening_of, IsWorking, with_moment, with_list, with_answer, with_word, WasCalled, Rolled}
 use Rattle.cd_serve.proofs.Gifts.{gave_moment, gave_answer, one_more_word}
@@ -33,7 +34,7 @@ module _ (begun : Seen) (start : History) (before : List Given) (list : ValueLis
   handled_unwritten w at unwritten = record {
     past = w.past ▸ entry.Handle 0 now (handle_answer (opening_of begun) w.past now);
     types = w.types;
-    runs = let R : List CacheEntry → Type 0 = λ cache. RunsOn (opening_of begun) begun.shelf seen.shelf seen.writer queue cache (w.past ▸ entry.Handle 0 now (handle_answer (opening_of begun) w.past now)) in
+    runs = let R : CacheMap → Type 0 = λ cache. RunsOn (opening_of begun) begun.shelf seen.shelf seen.writer queue cache (w.past ▸ entry.Handle 0 now (handle_answer (opening_of begun) w.past now)) in
         subst R (sym (cache_same w.types)) (let F : Bool → Type 0 = λ writer. RunsOn (opening_of begun) begun.shelf seen.shelf writer queue (stored (opening_of begun) list now seen.cache) (w.past ▸ entry.Handle 0 now (handle_answer (opening_of begun) w.past now)) in
         subst F (sym unwritten) (run_handles_unwritten list now (let G : Bool → Type 0 = λ writer. RunsOn (opening_of begun) begun.shelf seen.shelf writer (list ∷ queue) seen.cache w.past in subst G unwritten w.runs)));
     given = w.given ++ Now now ∷ [];
@@ -68,7 +69,7 @@ module _ (begun : Seen) (start : History) (before : List Given) (list : ValueLis
       record {
         past = Q;
         types = w.types;
-        runs = (let R : List CacheEntry → Type 0 = λ cache. RunsOn (opening_of begun) begun.shelf (called_first (calls.Write list) answer seen.shelf) seen.writer queue cache Q in
+        runs = (let R : CacheMap → Type 0 = λ cache. RunsOn (opening_of begun) begun.shelf (called_first (calls.Write list) answer seen.shelf) seen.writer queue cache Q in
             subst R (sym (cache_same w.types)) (let F : Bool → Type 0 = λ writer. RunsOn (opening_of begun) begun.shelf (called_first (calls.Write list) answer seen.shelf) writer queue (stored (opening_of begun) list now seen.cache) Q in
             subst F (sym written) (let O : List OnShelf → Type 0 = λ opened. RunsOn (opening_of begun) opened (called_first (calls.Write list) answer seen.shelf) true queue (stored (opening_of begun) list now seen.cache) Q in subst O (sym by.1) then_runs)));
         given = (w.given ++ Now now ∷ []) ++ Answered answer ∷ [];

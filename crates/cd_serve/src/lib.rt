@@ -9,6 +9,7 @@
 
 mod daemon;
 mod end;
+mod outside;
 mod program;
 mod shelf;
 

@@ -9,6 +9,7 @@ ghost use Rattle.cd_serve.specs.Working.Progress.{opened, seen_of, writes_first}
 
 use crate::daemon::Daemon;
 use crate::end::end_of;
+use crate::outside::{Around, Outside};
 use crate::{End, Shelved, ShelvedOf, ShelvedProbe, ShelvedProbeOf};
 use cd_cache::Cache;
 use cd_daemon::TIMEOUT;
@@ -65,17 +66,15 @@ fn writes_first<P: Plug>(shelf: &[ShelvedOf<P>]) -> bool
 }
 
 /// A daemon before the first line, with the built-in types; the shelf comes back where memory was lacking for them.
-fn begin<C, D, P: Plug>(
+fn begin<C: Clock, D: Dice, P: Plug>(
     alloc: Global,
     clock: C,
     dice: D,
     shelf: Vec<ShelvedOf<P>>,
-) -> Result<Daemon<C, D, P>, Vec<ShelvedOf<P>>>
-where
-    C: Clock,
-    D: Dice,
+) -> Result<Daemon<Around<C, D, P>>, Vec<ShelvedOf<P>>>
     requires few { length shelf.items ≤ 1 }
-    ensures ok { IfOk result (λ daemon. seen_of C.clock_pair D.dice_pair P.plug_tells daemon
+    ensures ok { IfOk result (λ daemon. seen_of
+        ⟦<Around<C, D, P> as Outside>⟧.outside_pairs ⟦<Around<C, D, P> as Outside>⟧.outside_shelf daemon
         ≡ opened (on_shelf P.plug_tells shelf.items)
         (record { clock = C.clock_pair clock; dice = D.dice_pair dice })) }
     ensures err { IfErr result (λ back. back.items ≡ shelf.items) }
@@ -84,11 +83,13 @@ where
     match TypesDb::builtin(alloc) {
         Ok(types) => Ok(Daemon {
             types,
-            plugs: shelf,
+            outside: Around {
+                clock,
+                dice,
+                plugs: shelf,
+            },
             writer,
             cache: Cache::new(alloc, TIMEOUT),
-            clock,
-            dice,
             given: Sequence::new(alloc),
         }),
         Err(_) => Err(shelf),
@@ -133,10 +134,11 @@ pub fn run_of<W: World, L: Link, P: Plug, Q: Drop>(
     match begin(alloc, clock, dice, shelf) {
         Ok(mut daemon) => {
             let served = serve_all(alloc, input, &mut daemon, INPUT_LIMIT);
+            let Daemon { outside, given, .. } = daemon;
             RanOf {
                 end: end_of(served),
-                given: daemon.given,
-                plugs: daemon.plugs,
+                given,
+                plugs: outside.plugs,
                 probes,
             }
         }

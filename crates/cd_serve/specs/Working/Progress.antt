@@ -1,15 +1,15 @@
 -- How far a run over lines has come.
-use Rattle.std.specs.Prelude.{◌≡◌, ◌⊎◌, ◌&&◌, not, ℕ, Bool, false, List, [], ◌∷◌, ◌++◌, length, map, Option, None, Some, Err}
+use Rattle.std.specs.Prelude.{◌≡◌, ◌⊎◌, ◌&&◌, not, ℕ, Bool, false, List, [], ◌∷◌, ◌++◌, length, map, Option, None, Some, Ok}
 use Rattle.cd_value.specs.declared.data.DataSet.{DataSet}
 use Rattle.cd_value.specs.declared.data.ValueList.{ValueList}
-use Rattle.cd_cache.specs.declared.entry.CacheEntry.{CacheEntry}
+use Rattle.cd_cache.specs.Cache.{CacheMap}
 use Rattle.cd_sock.specs.declared.fault.LineFault.TheVariants.{LineTooLong}
 use Rattle.cd_sock.specs.declared.command.Command.{Command}
 use Rattle.cd_sock.specs.declared.command.Command.TheVariants as command
 use Rattle.cd_sock.specs.declared.reply.Reply.{Reply}
 use Rattle.cd_sock.specs.declared.reply.Reply.TheVariants as replies
 use Rattle.cd_sock.specs.Lines.{Cut}
-use Rattle.cd_cache.specs.Cache.{cached}
+use Rattle.cd_cache.specs.Cache.{cached, empty}
 use Rattle.cd_cache.specs.Rows.{rows_of}
 use Rattle.cd_value.specs.Identifier.{name_of}
 use Rattle.cd_daemon.specs.Answers.{found_in, is_reserved}
@@ -21,7 +21,7 @@ use Rattle.cd_registry.specs.declared.calls.Answer.{Answer}
 use Rattle.cd_registry.specs.declared.calls.Call.{Call}
 use Rattle.cd_daemon.specs.Handling.{stored}
 use Rattle.cd_serve.specs.declared.daemon.Daemon.{Daemon}
-use Rattle.cd_serve.specs.Shelf.{on_shelf, places}
+use Rattle.cd_serve.specs.Shelf.{places}
 use Rattle.cd_registry.specs.declared.kinds.TheConstants.Kinds.{WRITE}
 use Rattle.cd_history.specs.Registrations.{has_kind}
 use Rattle.cd_types.specs.Types.{builtin}
@@ -29,10 +29,11 @@ use Rattle.cd_history.specs.declared.given.Given.{Given}
 use Rattle.cd_history.specs.declared.given.Given.TheVariants.{Now, Word, Answered}
 use Rattle.cd_history.specs.History.{History}
 use Rattle.cd_daemon.specs.declared.Opening.{Opening}
-use Rattle.cd_daemon.specs.declared.TheConstants.{INTERVAL}
+use Rattle.cd_daemon.specs.declared.TheConstants.{TIMEOUT}
 use Rattle.cd_transcript.specs.Transcripts.{line_says, IsTranscript, of_lines, found_reply}
 use Rattle.cd_transcript.specs.LineRuns.{OnShelf, Opens, Works, IsAsked, ServesLines}
-use Rattle.cd_serve.specs.Working.Standing.{RunsOn, called_first, registration_of}
+use Rattle.cd_serve.specs.Working.Standing.{RunsOn, registration_of}
+use Rattle.cd_serve.specs.Working.Outside.{after_moment, after_word, called_first}
 use Rattle.cd_serve.specs.Tells.{Pairs, Gave, GaveAll}
 
 -- what is seen of a daemon
@@ -40,7 +41,7 @@ pub record Seen : Type 0 where
   pub types : List DataSet
   pub shelf : List OnShelf
   pub writer : Bool
-  pub cache : List CacheEntry
+  pub cache : CacheMap
   pub given : List Given
   pub pairs : Pairs
 
@@ -68,29 +69,29 @@ pub record IsWorking (begun : Seen) (start : History) (before : List Given) (que
   pub works : Works (opening_of begun) IsAsked start given past
   pub gave : GaveAll begun.pairs seen.pairs seen.given
 
--- what is seen of a daemon, where these tell what its clock, its dice and its plug-ins tell
-abbrev pub seen_of : {C D P : Type 0} → (C → Option (ℕ × ℕ)) → (D → Option (ℕ × ℕ)) → (P → PlugTells) → Daemon C D P → Seen
-seen_of clock_pair dice_pair tells daemon = record {
+-- what is seen of a daemon, where these say what its outside tells
+abbrev pub seen_of : {O : Type 0} → (O → Pairs) → (O → List OnShelf) → Daemon O → Seen
+seen_of pairs shelf daemon = record {
   types = daemon.types;
-  shelf = on_shelf tells daemon.plugs.items;
+  shelf = shelf daemon.outside;
   writer = daemon.writer;
   cache = daemon.cache;
   given = daemon.given;
-  pairs = record { clock = clock_pair daemon.clock; dice = dice_pair daemon.dice };
+  pairs = pairs daemon.outside;
 }
 
 -- after a moment
 abbrev pub with_moment : ℕ → Seen → Seen
 with_moment now seen = record seen {
   given = seen.given ++ Now now ∷ [];
-  pairs = record { clock = option_map clock_after seen.pairs.clock; dice = seen.pairs.dice };
+  pairs = after_moment seen.pairs;
 }
 
 -- after a word of the dice
 abbrev pub with_word : ℕ → Seen → Seen
 with_word word seen = record seen {
   given = seen.given ++ Word word ∷ [];
-  pairs = record { clock = seen.pairs.clock; dice = option_map dice_after seen.pairs.dice };
+  pairs = after_word seen.pairs;
 }
 
 -- so many words of the dice were rolled
@@ -135,8 +136,12 @@ pub record IsServed (line : Cut) (reply : List ℕ) (old new : Seen) : Type 0 wh
   pub back : places new.shelf ≡ places old.shelf
 
 -- all objects of the one daemon stand in the places of the other's
-abbrev pub KeepsPlaces : {C D P : Type 0} → (P → PlugTells) → Daemon C D P → Daemon C D P → Type 0
-KeepsPlaces tells old new = places (on_shelf tells new.plugs.items) ≡ places (on_shelf tells old.plugs.items)
+abbrev pub KeepsPlaces : {O : Type 0} → (O → List OnShelf) → Daemon O → Daemon O → Type 0
+KeepsPlaces shelf old new = places (shelf new.outside) ≡ places (shelf old.outside)
+
+-- a line is blank at no moment, whatever types are known
+abbrev pub IsNotBlank : List ℕ → Type 0
+IsNotBlank line = (types : List DataSet) (now interval : ℕ) → meaning types now interval line ≡ Ok command.Blank → ⊥
 
 -- the first plug-in of a shelf is registered and called with lists
 abbrev pub writes_first : List OnShelf → Bool
@@ -145,4 +150,4 @@ writes_first (plug ∷ plugs) = not (is_reserved plug.name) && has_kind WRITE (r
 
 -- a daemon before the first line
 abbrev pub opened : List OnShelf → Pairs → Seen
-opened shelf pairs = record { types = builtin; shelf = shelf; writer = writes_first shelf; cache = []; given = []; pairs = pairs }
+opened shelf pairs = record { types = builtin; shelf = shelf; writer = writes_first shelf; cache = empty TIMEOUT; given = []; pairs = pairs }

@@ -10,7 +10,7 @@ use Rattle.cd_registry.specs.declared.kinds.TheConstants.Kinds.{WRITE}
 use Rattle.cd_history.specs.Registrations.{Registration, registrations, is_closed, is_retired, is_plug, has_kind}
 use Rattle.cd_history.specs.Leases.{takes, answers_to, taken_by}
 use Rattle.cd_daemon.specs.declared.Opening.{Opening}
-use Rattle.cd_cache.specs.declared.entry.CacheEntry.{CacheEntry}
+use Rattle.cd_cache.specs.Cache.{CacheMap}
 use Rattle.cd_daemon.specs.Calls.{cache_after}
 use Rattle.cd_daemon.specs.Calls.{calls_to}
 use Rattle.cd_daemon.specs.Legal.{IsLegal}
@@ -18,7 +18,7 @@ use Rattle.cd_history.specs.declared.entry.Joining.TheVariants as joining
 use Rattle.cd_transcript.specs.LineRuns.{OnShelf, returned}
 
 -- stopped or not, with these registrations, none of them closed, these lists in the queue and this cache
-pub record Standing (K : Opening) (stopped : Bool) (regs : List Registration) (queue : List ValueList) (cache : List CacheEntry) (P : History) : Type 0 where
+pub record Standing (K : Opening) (stopped : Bool) (regs : List Registration) (queue : List ValueList) (cache : CacheMap) (P : History) : Type 0 where
   pub legal : IsLegal K P
   pub is_so : is_stopped P ≡ stopped
   pub registers : registrations P ≡ regs
@@ -54,14 +54,9 @@ Writes true (g ∷ gs) = IsWriter g
 Writes false gs = filter (has_kind WRITE) gs ≡ []
 
 -- the daemon of a run after a history, with a shelf that told `opened` at first and tells `shelf` now
-pub record RunsOn (K : Opening) (opened shelf : List OnShelf) (writer : Bool) (queue : List ValueList) (cache : List CacheEntry) (P : History) : Type 0 where
+pub record RunsOn (K : Opening) (opened shelf : List OnShelf) (writer : Bool) (queue : List ValueList) (cache : CacheMap) (P : History) : Type 0 where
   pub regs : List Registration
   pub standing : Standing K false regs queue cache P
   pub of_shelf : AreOf opened regs
   pub writes : Writes writer regs
   pub back : shelf ≡ returned K P opened
-
--- the first plug-in was called and gave that answer
-abbrev pub called_first : Call → Answer → List OnShelf → List OnShelf
-called_first call answer [] = []
-called_first call answer (plug ∷ plugs) = record plug { tells = told_after call answer plug.tells } ∷ plugs

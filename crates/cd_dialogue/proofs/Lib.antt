@@ -1,5 +1,0 @@
-pub mod Breaking
-pub mod Going
-pub mod Inputs
-pub mod Serving
-pub mod Stepping

@@ -1,0 +1,25 @@
+-- What moments, words and calls do to what the outside of a daemon tells.
+use Rattle.std.specs.Prelude.{◌≡◌, List, [], ◌∷◌, Option, None, Some}
+use Rattle.std.specs.Option.{option_map}
+use Rattle.cd_io.specs.Told.{clock_after, dice_after}
+use Rattle.cd_registry.specs.declared.calls.Answer.{Answer}
+use Rattle.cd_registry.specs.declared.calls.Call.{Call}
+use Rattle.cd_registry.specs.Told.{told_after}
+use Rattle.cd_transcript.specs.LineRuns.{OnShelf}
+use Rattle.cd_serve.specs.Tells.{Pairs}
+
+abbrev pub after_moment : Pairs → Pairs
+after_moment pairs = record { clock = option_map clock_after pairs.clock; dice = pairs.dice }
+
+abbrev pub after_word : Pairs → Pairs
+after_word pairs = record { clock = pairs.clock; dice = option_map dice_after pairs.dice }
+
+-- the first plug-in was called and gave that answer
+abbrev pub called_first : Call → Answer → List OnShelf → List OnShelf
+called_first call answer [] = []
+called_first call answer (plug ∷ plugs) = record plug { tells = told_after call answer plug.tells } ∷ plugs
+
+-- the first plug-in was called, and gave an answer where there is one
+abbrev pub Called : Call → Option Answer → List OnShelf → List OnShelf → Type 0
+Called call None old new = (old ≡ []) × (new ≡ old)
+Called call (Some answer) old new = new ≡ called_first call answer old
