@@ -88,7 +88,7 @@ last_joined (p ∷ r ∷ ps) qs some = last_joined (r ∷ ps) qs some
 
 -- ---- bytes after others
 
-whole_joined : (heard more : List ℕ) → whole_lines (heard ++ more) ≡ whole_lines heard ++ whole_lines (unfinished heard ++ more)
+pub whole_joined : (heard more : List ℕ) → whole_lines (heard ++ more) ≡ whole_lines heard ++ whole_lines (unfinished heard ++ more)
 unfolding whole_lines unfinished onward
 whole_joined heard more =
     ap but_last (parts_joined heard more)
