@@ -1,8 +1,10 @@
 -- What a value list brings to the entry of its name.
-use Rattle.std.specs.Prelude.{ℕ}
+use Rattle.std.specs.Prelude.{◌≡◌, ℕ, Some}
 use Rattle.std.specs.Option.{unwrap_or}
+use Rattle.cd_value.specs.declared.data.DataSet.{DataSet}
 use Rattle.cd_value.specs.declared.data.ValueList.{ValueList}
 use Rattle.cd_cache.specs.declared.entry.CacheEntry.{CacheEntry}
+use Rattle.cd_cache.specs.Cache.{renewed}
 use Rattle.cd_cache.specs.declared.renewal.Renewal.{Renewal}
 
 -- the entry that a list makes with what it brings
@@ -17,3 +19,8 @@ renewed_by renewal list now before = record {
   rates = renewal.rates;
   arrival = now;
 }
+
+-- at any moment that is the entry of the list
+abbrev pub IsRenewal : Renewal → DataSet → CacheEntry → ValueList → Type 0
+IsRenewal renewal set before list =
+    (now : ℕ) → renewed_by renewal list now before ≡ renewed set (Some before) list now

@@ -6,5 +6,8 @@ use Rattle.cd_cache.specs.Cache.{CacheMap}
 abbrev pub row_of : List ℕ × CacheEntry → ℕ × List ℕ
 row_of pair = (pair.1.list.time, pair.0)
 
+abbrev pub names_of : List (ℕ × List ℕ) → List (List ℕ)
+names_of rows = map (λ row. row.1) rows
+
 abbrev pub rows_of : CacheMap → List (ℕ × List ℕ)
 rows_of cache = map row_of cache.entries

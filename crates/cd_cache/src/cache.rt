@@ -1,9 +1,9 @@
 //! The cache and its calls.
-ghost use Rattle.std.specs.Prelude.{◌≡◌, None, Some, is_some, option_copied, map, IfOk, OnOk, OnErr};
+ghost use Rattle.std.specs.Prelude.{◌≡◌, None, Some, is_some, option_copied, IfOk, OnOk, OnErr};
 ghost use Rattle.std.specs.List.Sorted.{IsStrictlySortedBy};
 ghost use Rattle.cd_value.specs.Identifier.{name_of};
 ghost use Rattle.cd_cache.specs.Cache.{KeepsOthers, cached, empty, entry_of, name_order, outcome, updated, without};
-ghost use Rattle.cd_cache.specs.Rows.{rows_of};
+ghost use Rattle.cd_cache.specs.Rows.{names_of, rows_of};
 
 use crate::renewal::Renewal;
 use crate::{CacheEntry, Updated};
@@ -53,7 +53,8 @@ impl Cache {
 
     /// Puts a list of that data set under its name, with its rates against the list that is there,
     /// and `now`, in 2^-30 s, as the moment of its arrival. Where the list that is there is as new
-    /// or newer, the cache stays. There are rates for as many sources as the set and both lists have.
+    /// or newer, the cache stays. There are rates for as many sources as the set and both lists
+    /// have.
     pub fn update(
         &mut self,
         alloc: Global,
@@ -97,7 +98,7 @@ impl Cache {
     /// The time, in 2^-30 s, and the name of each entry, in the order of the names' bytes.
     pub fn rows(&self, alloc: Global) -> Result<Rows, Memory>
         ensures rows { IfOk result (λ rows. rows ≡ rows_of self.now) }
-        ensures sorted { IfOk result (λ rows. IsStrictlySortedBy name_order (map (λ row. row.1) rows)) }
+        ensures sorted { IfOk result (λ rows. IsStrictlySortedBy name_order (names_of rows)) }
     {
         let mut rows = Vec::with_capacity(alloc, self.entries.len())?;
         for (name, entry) in self.entries.iter() {

@@ -1,7 +1,7 @@
 //! What a value list brings to the entry of its name.
 ghost use Rattle.std.specs.Prelude.{◌≡◌, IfOk, IsTrue, None, Some};
 ghost use Rattle.cd_cache.specs.Cache.{is_old, renewed};
-ghost use Rattle.cd_cache.specs.Renewal.{renewed_by};
+ghost use Rattle.cd_cache.specs.Renewal.{IsRenewal, renewed_by};
 
 use crate::CacheEntry;
 use crate::rates::rates_against;
@@ -25,8 +25,7 @@ impl Renewal {
         before: &CacheEntry,
         list: &ValueList,
     ) -> Result<Renewal, Memory>
-        ensures { IfOk result (λ renewal. (now : _) →
-            renewed_by renewal list.now now before.now ≡ renewed set.now (Some before.now) list.now now) }
+        ensures { IfOk result (λ renewal. IsRenewal renewal set.now before.now list.now) }
     {
         let id = if is_same(&before.list.id, &list.id) {
             None

@@ -36,7 +36,7 @@ fn list_of(alloc: Global, name: &str, time: u64, value: Value) -> Result<ValueLi
 fn cached(cache: &Cache, name: &Text) -> Option<(u64, Value, u64, Option<i128>)> {
     let entry = cache.get(name)?;
     let value = entry.list.values.as_slice().first()?;
-    let rate = entry.rates.as_slice().first()?;
+    let rate = cache.rates(name)?.as_slice().first()?;
     Some((entry.list.time, *value, entry.arrival, rate.millionths()))
 }
 
