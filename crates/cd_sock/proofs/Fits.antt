@@ -31,7 +31,7 @@ use Rattle.cd_sock.specs.declared.fault.LineFault.TheVariants.{LineTooLong, NotU
 use Rattle.cd_sock.specs.Values.{change_of, count_of, has_count, has_time, has_values, is_unknown, reading, Reading, value_at, value_of, value_texts}
 use Rattle.cd_sock.specs.Arguments.{from_first_plain, is_keyword, last_interval, leading_options}
 use Rattle.cd_sock.specs.Faults.{line_fault, need, of_words, with_fault}
-use Rattle.cd_sock.specs.Meaning.{Request, Blank, PutVal, GetVal, ListVal, ListsFit, at_moment, command_at, get_val, has_interval, identifier, is_blank_byte, is_blank_line, is_interval, list_at, list_val, meaning, put_known, put_parts, put_val, request_of, request_of_text, request_of_words, without_return}
+use Rattle.cd_sock.specs.Meaning.{Request, Blank, PutVal, GetVal, ListVal, ListsFit, at_moment, command_at, get_val, has_interval, identifier, is_blank_byte, is_blank_line, is_interval, list_at, list_val, put_known, put_parts, put_val, request_of, request_of_text, request_of_words, without_return}
 use Rattle.cd_text.specs.Quoting.{words_of}
 use Rattle.std.specs.Str.{is_utf8}
 use Rattle.std.specs.Prelude.{codes, unwrap_or}

@@ -1,5 +1,5 @@
 -- Lines of a stream that comes in pieces.
-use Rattle.std.proofs.Common.{◌≡◌, ℕ, suc, zero, ◌+◌, ◌≤◌, ◌<◌, List, [], ◌∷◌, ◌++◌, length, take, drop, get_or, map, Bool, true, false, Option, Some, None, cond, refl, sym, ap, ◌∙◌, append_assoc, subst, arith, length-append, length-take, nat_lt, add-one, add_comm, inl, inr}
+use Rattle.std.proofs.Common.{◌≡◌, ℕ, suc, zero, ◌+◌, ◌≤◌, ◌<◌, List, [], ◌∷◌, ◌++◌, length, take, drop, get_or, map, Bool, true, false, Option, Some, None, cond, refl, sym, ap, ◌∙◌, append_assoc, subst, arith, length-append, length-take, add-one, add_comm, inl, inr}
 use Rattle.std.proofs.lemmas.List.{append-nil, take_all, take-append-drop, get_or-take, map-append}
 use Rattle.std.proofs.lemmas.List.Splits.{slice_split_none, slice_split_at, length-slice_split}
 use Rattle.std.proofs.lemmas.List.Quantifiers.{position-Some}
@@ -241,6 +241,10 @@ added held bytes few room fit f =
 
 -- ---- what was cut of the bytes heard
 
+first_whole_lines : (heard more : List ℕ) → BeginsWith (map cut (whole_lines (heard ++ more))) (map cut (whole_lines heard))
+first_whole_lines heard more =
+    (map cut (whole_lines (unfinished heard ++ more)), ap (map cut) (whole_joined heard more) ∙ map-append cut (whole_lines heard) (whole_lines (unfinished heard ++ more)))
+
 first_lines : (heard more : List ℕ) → BeginsWith (cut_lines (heard ++ more)) (map cut (whole_lines heard))
 unfolding cut_lines
 first_lines heard more =
@@ -251,6 +255,7 @@ has_cut heard given cutter whole rest = record {
   whole = whole;
   rest = rest;
   first = λ more. let B : List Cut → Type 0 = BeginsWith (cut_lines (heard ++ more)) in subst B (sym whole) (first_lines heard more);
+  first_whole = λ more. let B : List Cut → Type 0 = BeginsWith (map cut (whole_lines (heard ++ more))) in subst B (sym whole) (first_whole_lines heard more);
 }
 
 pub begins : (cutter : Cut) → cutter ≡ cut [] → HasCut [] [] cutter

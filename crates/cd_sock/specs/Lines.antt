@@ -73,8 +73,9 @@ BeginsWith all first = (rest : List Cut) × (all ≡ first ++ rest)
 pub record HasCut (heard : List ℕ) (given : List Cut) (cutter : Cut) : Type 0 where
   pub whole : given ≡ map cut (whole_lines heard)
   pub rest : cutter ≡ cut (unfinished heard)
-  -- however the stream goes on, its lines begin with those given
+  -- however the stream goes on, its lines begin with those given, and so do its whole lines
   pub first : (more : List ℕ) → BeginsWith (cut_lines (heard ++ more)) given
+  pub first_whole : (more : List ℕ) → BeginsWith (map cut (whole_lines (heard ++ more))) given
 
 -- how many bytes of a piece stand before and with its first newline, or all where it has none
 abbrev pub through_newline : List ℕ → ℕ

@@ -1,4 +1,4 @@
-use Rattle.std.proofs.Common.{◌∙◌, ap, sym, List, ℕ, Some, None, cond}
+use Rattle.std.proofs.Common.{◌∙◌, ap, sym, List, Some, None, cond}
 use Rattle.cd_value.specs.declared.data.ValueList.{ValueList}
 use Rattle.cd_value.specs.Identifier.{Fields}
 use Rattle.cd_sock.specs.Meaning.{list_of}

@@ -1,7 +1,6 @@
-use Rattle.std.proofs.Common.{◌∙◌, ap, sym, List, ℕ, Option, Some, Vec, Global}
+use Rattle.std.proofs.Common.{◌∙◌, ap, sym, List, Option, Some, Vec, Global}
 use Rattle.std.specs.Prelude.{option_map}
 use Rattle.cd_value.specs.declared.data.ValueList.{ValueList}
-use Rattle.cd_value.specs.Identifier.{Fields}
 use Rattle.cd_sock.specs.Meaning.{list_of}
 use Rattle.cd_sock.specs.Values.{is_whole}
 use Rattle.cd_sock.proofs.AllOrNone.{fails_at_last, fails_before_last, with_last}
