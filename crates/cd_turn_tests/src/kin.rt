@@ -1,5 +1,5 @@
 //! What a caller learns of the passes that it splits off.
-ghost use Rattle.std.specs.Prelude.{◌<◌, IfSome};
+ghost use Rattle.std.specs.Prelude.{◌≡◌, ◌<◌, IfNone, IfSome, Some};
 ghost use Rattle.cd_turn.specs.Turns.{IsPassOf, view};
 ghost use Rattle.cd_turn_tests.specs.Family.{IsChild, SameActor};
 ghost use Rattle.cd_turn_tests.specs.Ticks.{tick_by};
@@ -11,7 +11,7 @@ use std::sync::Wait;
 /// A pass that counts.
 pub type Counter = Pass<Count, Tick>;
 
-/// Two passes that are split off from one. No two of the three have the same actor.
+/// Two passes that are split off from one. No two of the three have the same actor. None where the actors are used up.
 pub fn split_two<R: Wait>(
     rt: &R,
     turn: &Turn<Count, Tick>,
@@ -23,6 +23,7 @@ pub fn split_two<R: Wait>(
     ensures second { IfSome result (λ t. IsChild turn.now pass.old t.1) }
     ensures above { IfSome result (λ t. (view pass.old).actor < (view t.0).actor) }
     ensures apart { IfSome result (λ t. (view t.0).actor < (view t.1).actor) }
+    ensures spent { IfNone result ((view pass.new).over ≡ Some 2) }
 {
     let Ok(first) = turn.split(rt, pass) else {
         return None;

@@ -1,9 +1,9 @@
 //! Turns of one pass, here or in a thread.
-ghost use Rattle.std.specs.Prelude.{◌≡◌, IfSome};
+ghost use Rattle.std.specs.Prelude.{◌≡◌, ◌⊎◌, ◌+◌, [], ◌∷◌, ◌++◌, IfSome, Some};
 ghost use Rattle.std.specs.Arc.{arc_value};
 ghost use Rattle.cd_turn.specs.Turns.{IsPassOf, actor_of, out_of, parent_of, view};
 ghost use Rattle.cd_turn_tests.specs.Family.{IsChild, SameActor};
-ghost use Rattle.cd_turn_tests.specs.Ticks.{tick_by};
+ghost use Rattle.cd_turn_tests.specs.Ticks.{tick, tick_by};
 
 use crate::count::{Count, Tick, Ticked};
 use cd_turn::{Pass, Turn};
@@ -16,7 +16,10 @@ use std::thread::{Promise, PromisedHandle, Threads, spawn_with};
 pub fn turn_once<R: Wait>(rt: &R, turn: &Turn<Count, Tick>, pass: &mut Pass<Count, Tick>)
     requires { IsPassOf tick_by turn.now pass.old }
     ensures pass { IsPassOf tick_by turn.now pass.new }
-    ensures same { (actor_of pass.new ≡ actor_of pass.old) × (parent_of pass.new ≡ parent_of pass.old) × (out_of pass.new ≡ out_of pass.old) }
+    ensures same { (actor_of pass.new ≡ actor_of pass.old)
+        × (parent_of pass.new ≡ parent_of pass.old) × (out_of pass.new ≡ out_of pass.old) }
+    ensures took { let v = view pass.old in
+        ((view pass.new).mine ≡ v.mine ++ tick v.actor ∷ []) ⊎ ((view pass.new).over ≡ Some 0) }
 {
     let Ok(mut held) = pass.enter(rt, turn) else {
         return;
@@ -92,7 +95,8 @@ pub fn finish<R: Threads>(
 )
     requires pass { IsPassOf tick_by turn.now pass.old }
     requires child { IsChild turn.now pass.old running.promise.0.value }
-    ensures { SameActor turn.now pass.old pass.new }
+    ensures same { SameActor turn.now pass.old pass.new }
+    ensures out { out_of pass.new + 1 ≡ out_of pass.old }
 {
     let child = running.join(rt);
     turn.join(pass, child);
