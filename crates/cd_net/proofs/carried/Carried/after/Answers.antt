@@ -5,23 +5,23 @@ use Rattle.cd_net.proofs.carried.Carried.after.Goals as goal
 
 pub returns-in-0 : goal.returns-in-0
 unfolding with_field
-returns-in-0 c = rw (c.in-0.is, c.text.ensures) refl
+returns-in-0 c = rw (c.in-0.is, c.field.ensures) refl
 
 pub returns-in-2 : goal.returns-in-2
 unfolding with_field
-returns-in-2 c = rw (c.in-2.is, c.text-in-2.ensures) refl
+returns-in-2 c = rw (c.in-2.is, c.field-in-2.ensures) refl
 
 pub returns-in-3 : goal.returns-in-3
 unfolding with_field
-returns-in-3 c = rw (c.in-3.is, c.text-in-3.ensures) refl
+returns-in-3 c = rw (c.in-3.is, c.field-in-3.ensures) refl
 
 pub returns-in-4 : goal.returns-in-4
 unfolding with_field
-returns-in-4 c = rw (c.in-4.is, c.text-in-4.ensures) refl
+returns-in-4 c = rw (c.in-4.is, c.field-in-4.ensures) refl
 
 pub returns-in-5 : goal.returns-in-5
 unfolding with_field
-returns-in-5 c = rw (c.in-5.is, c.text-in-5.ensures) refl
+returns-in-5 c = rw (c.in-5.is, c.field-in-5.ensures) refl
 
 pub returns-in-1 : goal.returns-in-1
 unfolding with_field
