@@ -1,3 +1,4 @@
 pub mod Moves
 pub mod Rises
+pub mod Speaking
 pub mod Taken

@@ -1,11 +1,11 @@
 -- When a call on an object of the outside may fail.
-use Rattle.std.specs.Prelude.{ℕ, ◌+◌, ◌-◌, ◌^◌, ◌≤◌, min, Result, OnErr}
+use Rattle.std.specs.Prelude.{◌≡◌, ℕ, ◌+◌, ◌-◌, ◌^◌, ◌≤◌, min, Bool, true, false}
 
 -- a count went up, or stands at the last number that 64 bits hold
 abbrev pub Rose : ℕ → ℕ → Type 0
 Rose before now = min (before + 1) (2 ^ 64 - 1) ≤ now
 
--- the count of faults doesn't fall, and the call fails only where it rose
-pub record HasCause {T E : Type 0} (before now : ℕ) (result : Result T E) : Type 0 where
-  pub later : before ≤ now
-  pub failed : OnErr result (Rose before now)
+-- a count of the calls that failed, or were quiet: it rose in a call that is counted, and stands in one that isn't
+abbrev pub Counts : Bool → ℕ → ℕ → Type 0
+Counts true before now = (before ≤ now) × Rose before now
+Counts false before now = now ≡ before

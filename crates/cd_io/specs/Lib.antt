@@ -1,4 +1,4 @@
 pub mod Causes
-pub mod Heard
+pub mod Link
 pub mod MemLink
 pub mod Told

@@ -1,4 +1,4 @@
-// The real outside. These objects tell nothing of content, and count their errors.
+//! The real outside. These objects tell nothing of content, and count their errors.
 mod chance;
 mod streams;
 mod time;

@@ -1,17 +1,20 @@
 //! What the daemon asks of the outside: links to peers, clocks, dice, and the world that hands out clocks and dice.
 //!
-//! Each is a trait whose ghost members say what an object tells of itself: how often a call failed, which bytes
-//! were given, are left and were said, which moment or word comes next. A fault is answered only where the count
-//! of faults rose in that call. The objects in memory tell all; the adapters over the real streams and the real
-//! clock tell only their counts.
+//! It stands on std alone and takes no handle. Each object is a trait with one ghost member for what an object tells:
+//! `specs/Link.antt` says what calls on a link do to that, `specs/Told.antt` how clocks and dice go on, and
+//! `specs/Causes.antt` when a call may fail. The invariant of all: what was told goes on just as the calls say, or isn't
+//! told any more, and a count of faults or quiets rises only in a call that answers so. The objects in memory tell all; the
+//! adapters over real streams and the real clock tell only their counts. A change begins in `traits.rt`.
 #![tactic(auto)]
 
 mod adapters;
 mod memory;
+mod saying;
 mod traits;
 
 pub use adapters::{RealClock, RealDice, RealWorld, Streams};
 pub use memory::{LinkPlan, MemClock, MemDice, MemLink, MemWorld};
+pub use saying::say_all;
 pub use traits::{Clock, Dice, Failed, Heard, Link, World};
 
 #[cfg(test)]

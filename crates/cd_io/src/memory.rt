@@ -1,4 +1,4 @@
-// The outside in memory, for tests: it tells all that it holds.
+//! The outside in memory, for tests: it tells all that it holds.
 mod chance;
 mod link;
 mod time;

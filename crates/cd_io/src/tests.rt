@@ -1,6 +1,7 @@
+//! What no clause says: what goes over real readers and writers, and each call once.
 use crate::{
     Clock, Dice, Failed, Heard, Link, LinkPlan, MemClock, MemDice, MemLink, MemWorld, RealWorld,
-    Streams, World,
+    Streams, World, say_all,
 };
 use std::io::{self, ErrorKind, Read, Write};
 use std::test::Fail;
@@ -18,6 +19,24 @@ impl Read for Broken {
 impl Write for Broken {
     fn write(&mut self, _buf: &[u8]) -> io::Result<usize> {
         Err(io::Error::new(self.0, "broken"))
+    }
+
+    fn flush(&mut self) -> io::Result<()> {
+        Ok(())
+    }
+}
+
+/// A writer that takes a byte at a time.
+#[derive(Drop)]
+struct ByteByByte<'a>(&'a mut Vec<u8>);
+
+impl Write for ByteByByte<'_> {
+    fn write(&mut self, buf: &[u8]) -> io::Result<usize> {
+        let first = &buf[..buf.len().min(1)];
+        match self.0.extend_from_slice(first) {
+            Ok(()) => Ok(first.len()),
+            Err(_) => Err(io::Error::from(ErrorKind::OutOfMemory)),
+        }
     }
 
     fn flush(&mut self) -> io::Result<()> {
@@ -50,6 +69,8 @@ fn memory_goes_by_its_plan(rt: HostRuntime) -> Result<(), Fail> {
         assert_eq!(rt; link.say(b"123"), answer);
     }
     assert_eq!(rt; link.output(), Some(b"123123".as_slice()));
+    assert_eq!(rt; say_all(&mut link, b"4"), Ok(()));
+    assert_eq!(rt; link.output(), Some(b"1231234".as_slice()));
 
     let mut world = MemWorld::new((u64::MAX - 6, 5), (u64::MAX - 6, 5));
     let mut clock = world.clock();
@@ -89,6 +110,16 @@ fn streams_are_a_link(rt: HostRuntime) {
     }
     let mut link = Streams::new(Broken(ErrorKind::BrokenPipe), Vec::new(rt.alloc()));
     assert!(rt; link.hear(&mut buf).is_err());
+}
+
+#[test]
+fn short_writes_lose_nothing(rt: HostRuntime) -> Result<(), Fail> {
+    let mut taken = Vec::new(rt.alloc());
+    let mut link = Streams::new(b"".as_slice(), ByteByByte(&mut taken));
+    assert_eq!(rt; link.say(b"abc"), Ok(1));
+    assert_eq!(rt; say_all(&mut link, b"0 Success\n"), Ok(()));
+    assert_eq!(rt; taken.as_slice(), b"a0 Success\n".as_slice());
+    Ok(())
 }
 
 #[test]

@@ -1,9 +1,9 @@
-// What the daemon asks of the outside.
-ghost use Rattle.std.specs.Prelude.{◌≡◌, ◌<◌, ◌≤◌, [], List, ℕ, length, take, Option, IfSome, IfOk, Ok};
+//! What the daemon asks of the outside.
+ghost use Rattle.std.specs.Prelude.{◌≡◌, ◌<◌, ◌≤◌, true, ℕ, length, Option, IfSome, IfOk, Ok};
 ghost use Rattle.std.specs.Option.{option_map};
-ghost use Rattle.cd_io.specs.Causes.{Rose, HasCause};
-ghost use Rattle.cd_io.specs.Heard.{heard_count, said_count};
-ghost use Rattle.cd_io.specs.Told.{Stays, Grows, Loses, clock_after, dice_after};
+ghost use Rattle.cd_io.specs.Causes.{Counts};
+ghost use Rattle.cd_io.specs.Link.{LinkTells, Hears, Says, heard_count};
+ghost use Rattle.cd_io.specs.Told.{clock_after, dice_after};
 
 use std::marker::Send;
 
@@ -14,8 +14,7 @@ pub struct Failed;
 impl Failed {
     /// Counts a fault, and makes its answer.
     pub(crate) fn counted(faults: &mut u64) -> Self
-        ensures later { faults.old ≤ faults.new }
-        ensures rose { Rose faults.old faults.new }
+        ensures { Counts true faults.old faults.new }
     {
         *faults = faults.saturating_add(1);
         Failed
@@ -34,46 +33,22 @@ pub enum Heard {
 }
 
 /// A stream of bytes from a peer, and one to it.
-///
-/// What is told of the bytes is `None` for a link that doesn't tell it.
 pub trait Link: Send + Drop {
-    /// How many calls have failed.
-    ghost link_faults: { Self → ℕ };
-
-    /// How many times nothing came within the limit of waiting.
-    ghost link_quiets: { Self → ℕ };
-
-    /// The bytes from the peer that `hear` has given so far.
-    ghost link_given: { Self → Option (List ℕ) };
-
-    /// The bytes from the peer that `hear` has still to give.
-    ghost link_left: { Self → Option (List ℕ) };
-
-    /// The bytes that were said to the peer so far.
-    ghost link_said: { Self → Option (List ℕ) };
+    /// What it tells: the bytes given, left and said, where it tells them, and the counts of faults and of quiets.
+    ghost link_tells: { Self → LinkTells };
 
     /// Takes the next bytes from the peer into the front of the buffer. What the buffer has behind them is left open.
     fn hear(&mut self, buf: &mut [u8]) -> Result<Heard, Failed>
         requires { 0 < length buf.old }
         ensures got { heard_count result ≤ length buf.new }
         ensures some { (n : ℕ) → result ≡ Ok (Heard.Got n) → 0 < n }
-        ensures given { Grows (take (heard_count result) buf.new) (link_given self.old) (link_given self.new) }
-        ensures left { Loses (take (heard_count result) buf.new) (link_left self.old) (link_left self.new) }
-        ensures said { Stays (link_said self.old) (link_said self.new) }
-        ensures end { result ≡ Ok Heard.End → IfSome (link_left self.old) (λ bytes. bytes ≡ []) }
-        ensures quiet { result ≡ Ok Heard.Quiet → Rose (link_quiets self.old) (link_quiets self.new) }
-        ensures quiets { link_quiets self.old ≤ link_quiets self.new }
-        ensures cause { HasCause (link_faults self.old) (link_faults self.new) result };
+        ensures hears { Hears result buf.new (link_tells self.old) (link_tells self.new) };
 
-    /// Says the first bytes of a piece to the peer, and answers how many.
-    fn say(&mut self, bytes: &[u8]) -> Result<usize, Failed>
-        ensures bound { IfOk result (λ n. n ≤ length bytes.now) }
-        ensures some { IfOk result (λ n. 0 < length bytes.now → 0 < n) }
-        ensures given { Stays (link_given self.old) (link_given self.new) }
-        ensures left { Stays (link_left self.old) (link_left self.new) }
-        ensures said { Grows (take (said_count result) bytes.now) (link_said self.old) (link_said self.new) }
-        ensures quiets { link_quiets self.old ≤ link_quiets self.new }
-        ensures cause { HasCause (link_faults self.old) (link_faults self.new) result };
+    /// Says the first bytes of a text to the peer, and answers how many.
+    fn say(&mut self, text: &[u8]) -> Result<usize, Failed>
+        ensures bound { IfOk result (λ n. n ≤ length text.now) }
+        ensures some { IfOk result (λ n. 0 < length text.now → 0 < n) }
+        ensures says { Says result text.now (link_tells self.old) (link_tells self.new) };
 }
 
 /// A clock. Moments are in units of 2^-30 seconds.

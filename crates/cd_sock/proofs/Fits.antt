@@ -22,13 +22,14 @@ use Rattle.cd_value.specs.declared.data.DsType.TheVariants as kinds
 use Rattle.cd_value.specs.declared.data.Value.{Value}
 use Rattle.cd_value.specs.declared.data.Value.TheVariants.{Counter, Gauge, Derive, Absolute}
 use Rattle.cd_value.specs.declared.data.ValueList.{ValueList}
+use Rattle.cd_sock.specs.declared.lines.TheConstants.{LINE_LIMIT}
 use Rattle.cd_sock.specs.declared.command.Command.{Command}
 use Rattle.cd_sock.specs.declared.fault.LineFault.{LineFault}
 use Rattle.cd_sock.specs.declared.fault.LineFault.TheVariants.{LineTooLong, NotUtf8, UnknownCommand, UnknownType, BadOption, BadTime, WrongNumberOfValues, BadValue}
 use Rattle.cd_sock.specs.Values.{change_of, count_of, has_count, has_time, has_values, is_unknown, reading, Reading, value_at, value_of, value_texts}
-use Rattle.cd_sock.specs.Arguments.{from_first_plain, is_named, last_interval, leading_options}
-use Rattle.cd_sock.specs.Faults.{fault, need, of_words, with_fault}
-use Rattle.cd_sock.specs.Meaning.{Request, Blank, PutVal, GetVal, ListVal, ListsFit, at_moment, command_at, get_val, has_interval, identifier, is_blank, is_blank_line, is_interval, list_at, list_val, meaning, put_known, put_parts, put_val, request_of, request_of_text, request_of_words, without_return}
+use Rattle.cd_sock.specs.Arguments.{from_first_plain, is_keyword, last_interval, leading_options}
+use Rattle.cd_sock.specs.Faults.{line_fault, need, of_words, with_fault}
+use Rattle.cd_sock.specs.Meaning.{Request, Blank, PutVal, GetVal, ListVal, ListsFit, at_moment, command_at, get_val, has_interval, identifier, is_blank_byte, is_blank_line, is_interval, list_at, list_val, meaning, put_known, put_parts, put_val, request_of, request_of_text, request_of_words, without_return}
 use Rattle.cd_text.specs.Quoting.{words_of}
 use Rattle.std.specs.Str.{is_utf8}
 use Rattle.std.specs.Prelude.{codes, unwrap_or}
@@ -208,7 +209,7 @@ list_val_stands types B words = by (length words == 0)
 words_stand : (types : List DataSet) (B : Type 0) (words : List Word) → IfOk (request_of_words types words) (Stands types B)
 unfolding request_of_words
 words_stand types B [] = tt
-words_stand types B (name ∷ more) = by (is_named (codes "PUTVAL") name.text) (is_named (codes "GETVAL") name.text) (is_named (codes "LISTVAL") name.text)
+words_stand types B (name ∷ more) = by (is_keyword (codes "PUTVAL") name.text) (is_keyword (codes "GETVAL") name.text) (is_keyword (codes "LISTVAL") name.text)
   where
     by : (p g l : Bool) → IfOk (cond p (put_val types more) (cond g (get_val more) (cond l (list_val more) (Err UnknownCommand)))) (Stands types B)
     by true g l = put_val_stands types B more
@@ -216,22 +217,22 @@ words_stand types B (name ∷ more) = by (is_named (codes "PUTVAL") name.text) (
     by false false true = list_val_stands types B more
     by false false false = tt
 
-text_stands : (types : List DataSet) (B : Type 0) (text : List ℕ) → (list_all is_blank text ≡ true → B) → IfOk (request_of_text types text) (Stands types B)
+text_stands : (types : List DataSet) (B : Type 0) (text : List ℕ) → (list_all is_blank_byte text ≡ true → B) → IfOk (request_of_text types text) (Stands types B)
 unfolding request_of_text
-text_stands types B text blank = by (list_all is_blank text) refl (is_utf8 text)
+text_stands types B text blank = by (list_all is_blank_byte text) refl (is_utf8 text)
   where
-    by : (b : Bool) → list_all is_blank text ≡ b → (u : Bool) → IfOk (cond b (Ok Blank) (unless ((u, NotUtf8) ∷ []) text >>= λ text. with_fault of_words (words_of text) >>= λ words. request_of_words types words)) (Stands types B)
+    by : (b : Bool) → list_all is_blank_byte text ≡ b → (u : Bool) → IfOk (cond b (Ok Blank) (unless ((u, NotUtf8) ∷ []) text >>= λ text. with_fault of_words (words_of text) >>= λ words. request_of_words types words)) (Stands types B)
     by true is u = blank is
     by false is true = then_stands (Stands types B) (with_fault of_words (words_of text)) _ (each _ (with_fault of_words (words_of text)) (λ words e. words_stand types B words))
     by false is false = tt
 
 pub line_stands : (types : List DataSet) (line : List ℕ) → IfOk (request_of types line) (Stands types (is_blank_line line ≡ true))
 unfolding request_of
-line_stands types line = by (nat_le (length line) 4096) refl
+line_stands types line = by (nat_le (length line) LINE_LIMIT) refl
   where
-    by : (b : Bool) → nat_le (length line) 4096 ≡ b
+    by : (b : Bool) → nat_le (length line) LINE_LIMIT ≡ b
         → IfOk (unless ((b, LineTooLong) ∷ []) line >>= λ line. request_of_text types (without_return line)) (Stands types (is_blank_line line ≡ true))
-    by true short = text_stands types (is_blank_line line ≡ true) (without_return line) (λ blank. and_from (nat_le (length line) 4096) (list_all is_blank (without_return line)) short blank)
+    by true short = text_stands types (is_blank_line line ≡ true) (without_return line) (λ blank. and_from (nat_le (length line) LINE_LIMIT) (list_all is_blank_byte (without_return line)) short blank)
     by false long = tt
 
 request_fits : (types : List DataSet) (B : Type 0) (now interval : ℕ) (request : Request) → Stands types B request → ListsFit types (command_at now interval request)
@@ -253,7 +254,7 @@ pub lists_fit : (types : List DataSet) (now interval : ℕ) (line : List ℕ) (c
 lists_fit types now interval line command e = command_fits types (is_blank_line line ≡ true) now interval (request_of types line) command (line_stands types line) e
 
 -- the same of what a text was read as
-pub read_fits : (types : List DataSet) (now interval : ℕ) (text : List ℕ) (result : Result Command LineFault) → Gives (λ command. command) fault result (at_moment now interval (request_of_text types text))
+pub read_fits : (types : List DataSet) (now interval : ℕ) (text : List ℕ) (result : Result Command LineFault) → Gives (λ command. command) line_fault result (at_moment now interval (request_of_text types text))
     → IfOk result (λ command. ListsFit types command)
 read_fits types now interval text (Ok command) given = command_fits types (Unit {0}) now interval (request_of_text types text) command (text_stands types (Unit {0}) text (λ e. tt)) given
 read_fits types now interval text (Err f) given = tt

@@ -9,17 +9,16 @@ use Rattle.std.proofs.lemmas.Bool.{and_parts, and_from, cond-false, lt-ltb, ne_e
 use Rattle.std.proofs.lemmas.Fmt.{decimal_is_IsNumeral}
 use Rattle.std.proofs.lemmas.List.{append-nil}
 use Rattle.std.proofs.lemmas.List.Folds.{list_all-append, list_any-append}
-use Rattle.std.proofs.lemmas.List.Splits.{slice_split_at}
 use Rattle.std.proofs.lemmas.Str.Parse.{digit_at, without_leading_plus_none}
 use Rattle.cd_value.specs.declared.data.Rate.{Rate}
 use Rattle.cd_value.specs.Print.{digit, six_digits, unsigned_text, number_or_nan}
 use Rattle.cd_value.specs.Rates.{millionths}
-use Rattle.cd_sock.specs.Lines.{IsInLine, is_newline, lines, unfinished, last_part, whole_lines}
+use Rattle.cd_sock.specs.Lines.{IsInLine, is_newline, lines, unfinished, whole_lines}
 use Rattle.cd_sock.specs.declared.fault.LineFault.{LineFault}
 use Rattle.cd_sock.specs.declared.fault.LineFault.TheVariants as faults
-use Rattle.cd_sock.specs.Replies.{fault_text, line, rate_lines, rate_or_nan, row_line, values_found}
-use Rattle.cd_sock.specs.Framing.{AreFramed, HasStatus, IsFramed, first_word, is_one_line, is_space, lines_told, status}
-use Rattle.cd_sock.proofs.Pieces.{cons_in, empty_in, lines_at, parts_exist}
+use Rattle.cd_sock.specs.Replies.{fault_text, flushed_line, with_newline, rate_lines, rate_or_nan, row_line, values_found}
+use Rattle.cd_sock.specs.Framing.{AreFramed, HasStatus, IsFramed, status_word, is_one_line, is_space, lines_told, status}
+use Rattle.cd_sock.proofs.Pieces.{cons_in, empty_in, lines_at, unfinished_at}
 
 -- ---- texts without a byte
 
@@ -67,13 +66,9 @@ no_lines : HasLines 0 []
 unfolding lines whole_lines unfinished
 no_lines = record { count = refl; ended = refl }
 
-unfinished_at : (xs more : List ℕ) → IsInLine xs → unfinished (xs ++ 10 ∷ more) ≡ unfinished more
-unfolding unfinished
-unfinished_at xs more p = ap last_part (slice_split_at is_newline xs 10 more p refl) ∙ (parts_exist more xs).1
-
-one_more : (n : ℕ) (text more : List ℕ) → is_one_line text ≡ true → HasLines n more → HasLines (suc n) (line text ++ more)
+one_more : (n : ℕ) (text more : List ℕ) → is_one_line text ≡ true → HasLines n more → HasLines (suc n) (with_newline text ++ more)
 one_more n text more plain h =
-    let at : line text ++ more ≡ text ++ 10 ∷ more = append_assoc text (10 ∷ []) more in
+    let at : with_newline text ++ more ≡ text ++ 10 ∷ more = append_assoc text (10 ∷ []) more in
     record {
       count = ap (λ (t : List ℕ). length (lines t)) at ∙ ap length (lines_at text more (in_line text plain)) ∙ ap suc h.count;
       ended = ap unfinished at ∙ unfinished_at text more (in_line text plain) ∙ h.ended;
@@ -81,7 +76,7 @@ one_more n text more plain h =
 
 -- ---- the first line
 
-before_space : (xs more : List ℕ) → lacks 32 xs ≡ true → first_word (xs ++ 32 ∷ more) ≡ xs
+before_space : (xs more : List ℕ) → lacks 32 xs ≡ true → status_word (xs ++ 32 ∷ more) ≡ xs
 before_space xs more h =
     ap (λ (n : ℕ). take n (xs ++ 32 ∷ more)) (place xs h) ∙ take-append_seam xs (32 ∷ more)
   where
@@ -106,7 +101,7 @@ module _ (n : ℕ) (small : n < 2 ^ 64) where
 
   decimal_status : (more : List ℕ) → HasStatus (decimal n ++ 32 ∷ more) × (status (decimal n ++ 32 ∷ more) ≡ pos n)
   decimal_status more =
-      let word : first_word (decimal n ++ 32 ∷ more) ≡ decimal n = before_space (decimal n) more (decimal_lacks 32 n (omega arith)) in
+      let word : status_word (decimal n ++ 32 ∷ more) ≡ decimal n = before_space (decimal n) more (decimal_lacks 32 n (omega arith)) in
       let numeral = decimal_is_IsNumeral n small in
       let value : signed_digits_value 10 (decimal n) ≡ pos n
       = cond-false (starts_with_minus (decimal n)) _ _ no_minus ∙ ap (λ (ds : List ℕ). pos (digits_value 10 ds)) unsigned ∙ ap (λ (m : ℕ). pos m) numeral.1 in (
@@ -126,10 +121,10 @@ module _ (n : ℕ) (small : n < 2 ^ 64) where
       by false = decimal_status (codes "Values found")
 
 -- a first line and the lines that its status tells of
-framed : (n : ℕ) (first body : List ℕ) → is_one_line first ≡ true → HasStatus first → lines_told (status first) ≡ n → HasLines n body → IsFramed (line first ++ body)
+framed : (n : ℕ) (first body : List ℕ) → is_one_line first ≡ true → HasStatus first → lines_told (status first) ≡ n → HasLines n body → IsFramed (with_newline first ++ body)
 framed n first body plain head told h =
-    let at : line first ++ body ≡ first ++ 10 ∷ body = append_assoc first (10 ∷ []) body in
-    let all : first ∷ lines body ≡ lines (line first ++ body) = sym (ap lines at ∙ lines_at first body (in_line first plain)) in
+    let at : with_newline first ++ body ≡ first ++ 10 ∷ body = append_assoc first (10 ∷ []) body in
+    let all : first ∷ lines body ≡ lines (with_newline first ++ body) = sym (ap lines at ∙ lines_at first body (in_line first plain)) in
     record {
       framed = subst (λ (ls : List (List ℕ)). AreFramed ls) all (head, h.count ∙ sym told);
       ended = ap unfinished at ∙ unfinished_at first body (in_line first plain) ∙ h.ended;
@@ -137,15 +132,25 @@ framed n first body plain head told h =
 
 -- ---- the replies
 
-pub success_framed : IsFramed (line (codes "0 Success"))
-success_framed = framed 0 (codes "0 Success") [] refl (record { number = (lit< tt, (lit< tt, tt)); space = refl }) refl no_lines
+pub done_framed : (message : List ℕ) → is_one_line message ≡ true → IsFramed (with_newline (codes "0 " ++ message))
+done_framed message plain =
+    subst (λ (text : List ℕ). IsFramed text) (append-nil (with_newline (codes "0 " ++ message)))
+    (framed 0 (codes "0 " ++ message) [] plain (record { number = (lit< tt, (lit< tt, tt)); space = refl }) refl no_lines)
 
-pub refusal_framed : (message : List ℕ) → is_one_line message ≡ true → IsFramed (line (codes "-1 " ++ message))
+pub flushed_framed : (successful errors : ℕ) → IsFramed (flushed_line successful errors)
+flushed_framed successful errors =
+    done_framed (codes "Done: " ++ decimal successful ++ codes " successful, " ++ decimal errors ++ codes " errors")
+    (lacks_both 10 (codes "Done: " ++ decimal successful ++ codes " successful, " ++ decimal errors) (codes " errors")
+    (lacks_both 10 (codes "Done: " ++ decimal successful ++ codes " successful, ") (decimal errors)
+    (lacks_both 10 (codes "Done: " ++ decimal successful) (codes " successful, ") (lacks_both 10 (codes "Done: ") (decimal successful) refl (decimal_lacks 10 successful (omega arith))) refl)
+    (decimal_lacks 10 errors (omega arith))) refl)
+
+pub refusal_framed : (message : List ℕ) → is_one_line message ≡ true → IsFramed (with_newline (codes "-1 " ++ message))
 refusal_framed message plain =
-    subst (λ (text : List ℕ). IsFramed text) (append-nil (line (codes "-1 " ++ message)))
+    subst (λ (text : List ℕ). IsFramed text) (append-nil (with_newline (codes "-1 " ++ message)))
     (framed 0 (codes "-1 " ++ message) [] plain (record { number = (lit< tt, (lit< tt, tt)); space = refl }) refl no_lines)
 
-pub fault_framed : (f : LineFault) → IsFramed (line (fault_text f))
+pub fault_framed : (f : LineFault) → IsFramed (with_newline (fault_text f))
 fault_framed faults.LineTooLong = refusal_framed (codes "Line too long") refl
 fault_framed faults.NotUtf8 = refusal_framed (codes "Not UTF-8") refl
 fault_framed faults.UnterminatedQuote = refusal_framed (codes "Unterminated quote") refl

@@ -8,22 +8,23 @@ use Rattle.cd_reading.specs.First.{◌>>=◌, unless}
 use Rattle.cd_value.specs.declared.data.DataSet.{DataSet}
 use Rattle.cd_value.specs.declared.data.ValueList.{ValueList}
 use Rattle.cd_value.specs.Identifier.{Fields}
+use Rattle.cd_sock.specs.declared.lines.TheConstants.{LINE_LIMIT}
 use Rattle.cd_sock.specs.declared.command.Command.TheVariants as commands
 use Rattle.cd_sock.specs.declared.fault.LineFault.{LineFault}
 use Rattle.cd_sock.specs.declared.fault.LineFault.TheVariants.{LineTooLong}
 use Rattle.cd_sock.specs.Lines.{cut}
 use Rattle.cd_sock.proofs.Fits.{Stands, line_stands}
-use Rattle.cd_sock.specs.Meaning.{Request, Blank, PutVal, GetVal, ListVal, at_moment, is_blank, is_blank_line, list_at, meaning, request_of, request_of_text, without_return}
+use Rattle.cd_sock.specs.Meaning.{Request, Blank, PutVal, GetVal, ListVal, at_moment, is_blank_byte, is_blank_line, list_at, meaning, request_of, request_of_text, without_return}
 
 -- a line that is cut as too long is refused as such
 pub too_long : (types : List DataSet) (now interval : ℕ) (line : List ℕ) → cut line ≡ None → meaning types now interval line ≡ Err LineTooLong
 unfolding request_of
-too_long types now interval line e = by (nat_lt 4096 (length line)) refl e
+too_long types now interval line e = by (nat_lt LINE_LIMIT (length line)) refl e
   where
-    by : (t : Bool) → nat_lt 4096 (length line) ≡ t → cond t None (Some line) ≡ None → meaning types now interval line ≡ Err LineTooLong
+    by : (t : Bool) → nat_lt LINE_LIMIT (length line) ≡ t → cond t None (Some line) ≡ None → meaning types now interval line ≡ Err LineTooLong
     by true h e =
         ap (λ (b : Bool). at_moment now interval (unless ((b, LineTooLong) ∷ []) line >>= λ line. request_of_text types (without_return line)))
-        (lt-leb (length line) 4096 (ltb-true 4096 (length line) h))
+        (lt-leb (length line) LINE_LIMIT (ltb-true LINE_LIMIT (length line) h))
     by false h e = cc
 
 -- ---- the moment and the global interval change only times and intervals
@@ -92,9 +93,9 @@ module _ (types : List DataSet) (now interval later other : ℕ) (line : List �
 pub blank_line : (types : List DataSet) (now interval : ℕ) (line : List ℕ) → is_blank_line line ≡ true → meaning types now interval line ≡ Ok commands.Blank
 unfolding request_of request_of_text
 blank_line types now interval line e =
-    let parts = and_parts (nat_le (length line) 4096) (list_all is_blank (without_return line)) e in
-    let short : nat_le (length line) 4096 ≡ true = parts.0 in
-    let blank : list_all is_blank (without_return line) ≡ true = parts.1 in
+    let parts = and_parts (nat_le (length line) LINE_LIMIT) (list_all is_blank_byte (without_return line)) e in
+    let short : nat_le (length line) LINE_LIMIT ≡ true = parts.0 in
+    let blank : list_all is_blank_byte (without_return line) ≡ true = parts.1 in
     rw (short, blank) refl
 
 pub blank_only : (types : List DataSet) (now interval : ℕ) (line : List ℕ) → meaning types now interval line ≡ Ok commands.Blank → is_blank_line line ≡ true

@@ -23,9 +23,9 @@ use Rattle.cd_sock.specs.declared.command.Command.TheVariants as commands
 use Rattle.cd_sock.specs.declared.fault.LineFault.{LineFault}
 use Rattle.cd_sock.specs.declared.fault.LineFault.TheVariants.{NotUtf8, UnknownType, BadOption, BadTime, WrongNumberOfValues, BadValue}
 use Rattle.cd_sock.specs.Arguments.{last_interval}
-use Rattle.cd_sock.specs.Faults.{fault, of_words, with_fault}
+use Rattle.cd_sock.specs.Faults.{line_fault, of_words, with_fault}
 use Rattle.cd_sock.specs.Values.{has_count, has_time, has_values, is_whole, reading}
-use Rattle.cd_sock.specs.Meaning.{Request, PutVal, at_moment, command_at, has_interval, interval_in, is_blank, is_interval, list_at, lists_or_fault, put_known, put_parts, request_of_text, request_of_words, value_fault}
+use Rattle.cd_sock.specs.Meaning.{Request, PutVal, at_moment, command_at, has_interval, interval_in, is_blank_byte, is_interval, list_at, lists_or_fault, put_known, put_parts, request_of_text, request_of_words, value_fault}
 
 -- ---- faults that go on
 
@@ -36,7 +36,7 @@ refuses_on {A} {B} {F} (Some f) read next total h same = same ∙ ap (λ (r : Re
 
 -- a fault of the words is one of the line
 pub refuses_words : {B : Type 0} (e : WordFault) (read : Result (List Word) WordFault) (next : List Word → Result B LineFault) (total : Result B LineFault) → Refuses (quoting.fault e) read
-    → total ≡ (with_fault of_words read >>= next) → Refuses (fault (of_words e)) total
+    → total ≡ (with_fault of_words read >>= next) → Refuses (line_fault (of_words e)) total
 refuses_words {B} Unterminated read next total h same = same ∙ ap (λ (r : Result (List Word) WordFault). with_fault of_words r >>= next) h
 refuses_words {B} Memory read next total h same = tt
 
@@ -107,13 +107,13 @@ known types name options (value ∷ values) id set some read is = rw (read, ← 
 
 -- ---- the text of a line
 
-pub not_utf8 : (types : List DataSet) (text : List ℕ) → list_all is_blank text ≡ false → (IsUtf8 text → ⊥) → request_of_text types text ≡ Err NotUtf8
+pub not_utf8 : (types : List DataSet) (text : List ℕ) → list_all is_blank_byte text ≡ false → (IsUtf8 text → ⊥) → request_of_text types text ≡ Err NotUtf8
 unfolding request_of_text
 not_utf8 types text some bad =
     let bad_utf8 : is_utf8 text ≡ false = false_from_ne_true (is_utf8 text) (λ e. bad (IsUtf8-from_is_utf8 text e)) in
     rw (some, bad_utf8) refl
 
-in_words : (types : List DataSet) (text : List ℕ) → list_all is_blank text ≡ false → IsUtf8 text → request_of_text types text ≡ (with_fault of_words (words_of text) >>= request_of_words types)
+in_words : (types : List DataSet) (text : List ℕ) → list_all is_blank_byte text ≡ false → IsUtf8 text → request_of_text types text ≡ (with_fault of_words (words_of text) >>= request_of_words types)
 unfolding request_of_text
 in_words types text some good =
     let utf8 : is_utf8 text ≡ true = is_utf8-from_IsUtf8 text good in
@@ -124,7 +124,7 @@ at_moment_next {A} now interval (Ok x) next = refl
 at_moment_next {A} now interval (Err f) next = refl
 
 -- the command of a text is that of its words
-pub of_its_words : (types : List DataSet) (text spoken : List ℕ) (now interval : ℕ) → list_all is_blank text ≡ false → (spoken ≡ text) × IsUtf8 text
+pub of_its_words : (types : List DataSet) (text spoken : List ℕ) (now interval : ℕ) → list_all is_blank_byte text ≡ false → (spoken ≡ text) × IsUtf8 text
     → at_moment now interval (request_of_text types text) ≡ (with_fault of_words (words_of spoken) >>= λ words. at_moment now interval (request_of_words types words))
 of_its_words types text spoken now interval some utf8 =
     ap (at_moment now interval) (in_words types text some utf8.1) ∙ at_moment_next now interval (with_fault of_words (words_of text)) (request_of_words types)

@@ -1,14 +1,15 @@
 -- Lines of a stream that comes in pieces.
-use Rattle.std.proofs.Common.{◌≡◌, ℕ, ◌+◌, ◌≤◌, ◌<◌, List, [], ◌∷◌, ◌++◌, length, take, drop, get_or, map, Bool, true, false, Option, Some, None, ◌⊎◌, inl, inr, cond, refl, sym, ap, ◌∙◌, append_assoc, subst, arith, length-append, length-take, nat_lt, suc, zero, drop-cons, add-one, add_comm}
-use Rattle.std.proofs.lemmas.List.{append-nil, take_all, take-append-le, take-append-drop, drop_all, get_or-take}
+use Rattle.std.proofs.Common.{◌≡◌, ℕ, suc, zero, ◌+◌, ◌≤◌, ◌<◌, List, [], ◌∷◌, ◌++◌, length, take, drop, get_or, map, Bool, true, false, Option, Some, None, cond, refl, sym, ap, ◌∙◌, append_assoc, subst, arith, length-append, length-take, nat_lt, add-one, add_comm, inl, inr}
+use Rattle.std.proofs.lemmas.List.{append-nil, take_all, take-append-drop, get_or-take, map-append}
 use Rattle.std.proofs.lemmas.List.Splits.{slice_split_none, slice_split_at, length-slice_split}
 use Rattle.std.proofs.lemmas.List.Quantifiers.{position-Some}
 use Rattle.std.proofs.lemmas.List.Sums.{fails_before_first}
-use Rattle.std.proofs.lemmas.Bool.{cases_lt, lt-ltb, cond-true, eqb-true, ltb-false}
-use Rattle.std.proofs.Math.Seq.{take-append-add}
-use Rattle.std.specs.List.{slice_split, onto_first, position, position_or_len}
+use Rattle.std.proofs.lemmas.Bool.{cases_lt, lt-ltb, le-ltb, cond-true, cond-false, eqb-true, ltb-false}
+use Rattle.std.proofs.Math.Seq.{take-append-add, take-suc}
+use Rattle.std.specs.List.{concat, slice_split, onto_first, position, position_or_len}
 use Rattle.std.specs.Option.{option_to_list}
-use Rattle.cd_sock.specs.Lines.{is_newline, but_last, last_part, whole_lines, unfinished, if_not_empty, lines, Cut, cut, cut_lines, IsInLine, start_of, last_line, Taken, taken, taken_to, Kept, Given}
+use Rattle.cd_sock.specs.declared.lines.TheConstants.{LINE_LIMIT, HELD_LIMIT}
+use Rattle.cd_sock.specs.Lines.{is_newline, but_last, last_part, whole_lines, unfinished, if_not_empty, lines, Cut, cut, cut_lines, IsInLine, IsHeld, BeginsWith, HasCut, through_newline, Takes, Finishes, TakesAll, none, used_up, takes}
 
 -- ---- bytes of one line
 
@@ -22,334 +23,327 @@ cons_in b bs h t (suc k) d lt = t k d (omega arith)
 tail_in : (b : ℕ) (bs : List ℕ) → IsInLine (b ∷ bs) → IsInLine bs
 tail_in b bs h k d lt = h (suc k) d (omega arith)
 
-pub append_in : (xs ys : List ℕ) → IsInLine xs → IsInLine ys → IsInLine (xs ++ ys)
+append_in : (xs ys : List ℕ) → IsInLine xs → IsInLine ys → IsInLine (xs ++ ys)
 append_in [] ys p q = q
 append_in (x ∷ xs) ys p q = cons_in x (xs ++ ys) (p 0 0 (omega arith)) (append_in xs ys (tail_in x xs p) q)
 
-pub take_in : (n : ℕ) (xs : List ℕ) → IsInLine xs → IsInLine (take n xs)
+take_in : (n : ℕ) (xs : List ℕ) → IsInLine xs → IsInLine (take n xs)
 take_in zero xs p = empty_in
 take_in (suc n) [] p = empty_in
 take_in (suc n) (x ∷ xs) p = cons_in x (take n xs) (p 0 0 (omega arith)) (take_in n xs (tail_in x xs p))
 
--- a stream is the bytes of one line, or has a first newline
-split_front : (bytes : List ℕ) → (p : List ℕ) × IsInLine p × ((bytes ≡ p) ⊎ ((more : List ℕ) × (bytes ≡ p ++ 10 ∷ more)))
-split_front [] = ([], empty_in, inl refl)
-split_front (b ∷ bs) = by (split_front bs) (is_newline b) refl
-  where
-    by : (t : (p : List ℕ) × IsInLine p × ((bs ≡ p) ⊎ ((more : List ℕ) × (bs ≡ p ++ 10 ∷ more)))) → (t : Bool) → is_newline b ≡ t → (p : List ℕ) × IsInLine p × ((b ∷ bs ≡ p) ⊎ ((more : List ℕ) × (b ∷ bs ≡ p ++ 10 ∷ more)))
-    by t true e = ([], empty_in, inr (bs, ap (λ (x : ℕ). x ∷ bs) (eqb-true b 10 e)))
-    by t false e = (b ∷ t.0, cons_in b t.0 e t.1, elim t.2 [ inl same ↦ inl (ap (λ (xs : List ℕ). b ∷ xs) same) | inr found ↦ inr (found.0, ap (λ (xs : List ℕ). b ∷ xs) found.1) ])
-
 -- ---- the parts between newlines
-
--- the parts with bytes put behind the last
-onto_last : List (List ℕ) → List ℕ → List (List ℕ)
-onto_last [] p = p ∷ []
-onto_last (x ∷ []) p = (x ++ p) ∷ []
-onto_last (x ∷ y ∷ more) p = x ∷ onto_last (y ∷ more) p
 
 some_parts : (bytes : List ℕ) → 0 < length (slice_split is_newline bytes)
 some_parts bytes = omega (arith, length-slice_split is_newline bytes)
 
-onto_both : (b : ℕ) (parts : List (List ℕ)) (p : List ℕ) → 0 < length parts → onto_first b (onto_last parts p) ≡ onto_last (onto_first b parts) p
-unfolding onto_last
-onto_both b [] p some = absurd (omega arith)
-onto_both b (x ∷ []) p some = refl
-onto_both b (x ∷ y ∷ more) p some = refl
-
-cons_last : (x : List ℕ) (parts : List (List ℕ)) (p : List ℕ) → 0 < length parts → x ∷ onto_last parts p ≡ onto_last (x ∷ parts) p
-unfolding onto_last
-cons_last x [] p some = absurd (omega arith)
-cons_last x (y ∷ more) p some = refl
-
-onto_cons : (b : ℕ) (parts others : List (List ℕ)) → 0 < length parts → onto_first b (parts ++ others) ≡ onto_first b parts ++ others
-onto_cons b [] others some = absurd (omega arith)
-onto_cons b (x ∷ parts) others some = refl
-
 parts_of_cons : (b : ℕ) (bs : List ℕ) (t : Bool) → is_newline b ≡ t → slice_split is_newline (b ∷ bs) ≡ cond t ([] ∷ slice_split is_newline bs) (onto_first b (slice_split is_newline bs))
 parts_of_cons b bs t e = ap (λ (u : Bool). cond u ([] ∷ slice_split is_newline bs) (onto_first b (slice_split is_newline bs))) e
 
--- bytes without a newline go on with the last part
-parts_in_line : (heard p : List ℕ) → IsInLine p → slice_split is_newline (heard ++ p) ≡ onto_last (slice_split is_newline heard) p
-unfolding onto_last
-parts_in_line [] p a = slice_split_none is_newline p a
-parts_in_line (b ∷ bs) p a = by (parts_in_line bs p a) (is_newline b) refl
+-- more parts, of which the first goes on with the last of these
+onward : List (List ℕ) → (List ℕ → List (List ℕ)) → List (List ℕ)
+onward ps more = but_last ps ++ more (last_part ps)
+
+-- a part before all others
+onward_cons : (x : List ℕ) (ps : List (List ℕ)) (more : List ℕ → List (List ℕ)) → 0 < length ps → x ∷ onward ps more ≡ onward (x ∷ ps) more
+unfolding onward
+onward_cons x [] more some = absurd (omega arith)
+onward_cons x (p ∷ ps) more some = refl
+
+-- what comes after some bytes goes on with their last part
+parts_joined : (bytes more : List ℕ) → slice_split is_newline (bytes ++ more) ≡ onward (slice_split is_newline bytes) (λ last. slice_split is_newline (last ++ more))
+unfolding onward
+parts_joined [] more = refl
+parts_joined (b ∷ bs) more = by (parts_joined bs more) (is_newline b) refl
   where
-    by : slice_split is_newline (bs ++ p) ≡ onto_last (slice_split is_newline bs) p → (t : Bool) → is_newline b ≡ t
-        → slice_split is_newline (b ∷ (bs ++ p)) ≡ onto_last (slice_split is_newline (b ∷ bs)) p
-    by more true e =
-        parts_of_cons b (bs ++ p) true e ∙ ap (λ (ps : List (List ℕ)). [] ∷ ps) more ∙ cons_last [] (slice_split is_newline bs) p (some_parts bs)
-        ∙ ap (λ (ps : List (List ℕ)). onto_last ps p) (sym (parts_of_cons b bs true e))
-    by more false e =
-        parts_of_cons b (bs ++ p) false e ∙ ap (onto_first b) more ∙ onto_both b (slice_split is_newline bs) p (some_parts bs)
-        ∙ ap (λ (ps : List (List ℕ)). onto_last ps p) (sym (parts_of_cons b bs false e))
+    rest : List ℕ → List (List ℕ)
+    rest last = slice_split is_newline (last ++ more)
 
--- a newline ends the last part
-parts_at_newline : (heard more : List ℕ) → slice_split is_newline (heard ++ 10 ∷ more) ≡ slice_split is_newline heard ++ slice_split is_newline more
-parts_at_newline [] more = refl
-parts_at_newline (b ∷ bs) more = by (parts_at_newline bs more) (is_newline b) refl
-  where
-    by : slice_split is_newline (bs ++ 10 ∷ more) ≡ slice_split is_newline bs ++ slice_split is_newline more → (t : Bool) → is_newline b ≡ t
-        → slice_split is_newline (b ∷ (bs ++ 10 ∷ more)) ≡ slice_split is_newline (b ∷ bs) ++ slice_split is_newline more
-    by rest true e =
-        parts_of_cons b (bs ++ 10 ∷ more) true e ∙ ap (λ (ps : List (List ℕ)). [] ∷ ps) rest
-        ∙ ap (λ (ps : List (List ℕ)). ps ++ slice_split is_newline more) (sym (parts_of_cons b bs true e))
-    by rest false e =
-        parts_of_cons b (bs ++ 10 ∷ more) false e ∙ ap (onto_first b) rest ∙ onto_cons b (slice_split is_newline bs) (slice_split is_newline more) (some_parts bs)
-        ∙ ap (λ (ps : List (List ℕ)). ps ++ slice_split is_newline more) (sym (parts_of_cons b bs false e))
+    onto : (ps : List (List ℕ)) → is_newline b ≡ false → 0 < length ps → onto_first b (onward ps rest) ≡ onward (onto_first b ps) rest
+    onto [] e some = absurd (omega arith)
+    onto (p ∷ []) e some = sym (parts_of_cons b (p ++ more) false e)
+    onto (p ∷ q ∷ ps) e some = refl
 
-but_last_onto : (parts : List (List ℕ)) (p : List ℕ) → 0 < length parts → but_last (onto_last parts p) ≡ but_last parts
-unfolding onto_last
-but_last_onto [] p some = absurd (omega arith)
-but_last_onto (x ∷ []) p some = refl
-but_last_onto (x ∷ y ∷ []) p some = refl
-but_last_onto (x ∷ y ∷ z ∷ more) p some = ap (λ (ps : List (List ℕ)). x ∷ ps) (but_last_onto (y ∷ z ∷ more) p (omega arith))
+    by : slice_split is_newline (bs ++ more) ≡ onward (slice_split is_newline bs) rest → (t : Bool) → is_newline b ≡ t
+        → slice_split is_newline (b ∷ (bs ++ more)) ≡ onward (slice_split is_newline (b ∷ bs)) rest
+    by same true e =
+        parts_of_cons b (bs ++ more) true e ∙ ap (λ (ps : List (List ℕ)). [] ∷ ps) same ∙ onward_cons [] (slice_split is_newline bs) rest (some_parts bs)
+        ∙ ap (λ (ps : List (List ℕ)). onward ps rest) (sym (parts_of_cons b bs true e))
+    by same false e =
+        parts_of_cons b (bs ++ more) false e ∙ ap (onto_first b) same ∙ onto (slice_split is_newline bs) e (some_parts bs)
+        ∙ ap (λ (ps : List (List ℕ)). onward ps rest) (sym (parts_of_cons b bs false e))
 
-last_onto : (parts : List (List ℕ)) (p : List ℕ) → 0 < length parts → last_part (onto_last parts p) ≡ last_part parts ++ p
-unfolding onto_last
-last_onto [] p some = absurd (omega arith)
-last_onto (x ∷ []) p some = refl
-last_onto (x ∷ y ∷ []) p some = refl
-last_onto (x ∷ y ∷ z ∷ more) p some = last_onto (y ∷ z ∷ more) p (omega arith)
+but_last_joined : (ps qs : List (List ℕ)) → 0 < length qs → but_last (ps ++ qs) ≡ ps ++ but_last qs
+but_last_joined [] qs some = refl
+but_last_joined (p ∷ []) [] some = absurd (omega arith)
+but_last_joined (p ∷ []) (q ∷ qs) some = refl
+but_last_joined (p ∷ r ∷ ps) qs some = ap (λ (xs : List (List ℕ)). p ∷ xs) (but_last_joined (r ∷ ps) qs some)
 
-but_last_ended : (parts : List (List ℕ)) (x : List ℕ) → but_last (parts ++ x ∷ []) ≡ parts
-but_last_ended [] x = refl
-but_last_ended (y ∷ []) x = refl
-but_last_ended (y ∷ z ∷ more) x = ap (λ (ps : List (List ℕ)). y ∷ ps) (but_last_ended (z ∷ more) x)
+last_joined : (ps qs : List (List ℕ)) → 0 < length qs → last_part (ps ++ qs) ≡ last_part qs
+last_joined [] qs some = refl
+last_joined (p ∷ []) [] some = absurd (omega arith)
+last_joined (p ∷ []) (q ∷ qs) some = refl
+last_joined (p ∷ r ∷ ps) qs some = last_joined (r ∷ ps) qs some
 
-last_ended : (parts : List (List ℕ)) (x : List ℕ) → last_part (parts ++ x ∷ []) ≡ x
-last_ended [] x = refl
-last_ended (y ∷ []) x = refl
-last_ended (y ∷ z ∷ more) x = last_ended (z ∷ more) x
+-- ---- bytes after others
 
-parts_again : (parts : List (List ℕ)) → 0 < length parts → but_last parts ++ last_part parts ∷ [] ≡ parts
-parts_again [] some = absurd (omega arith)
-parts_again (x ∷ []) some = refl
-parts_again (x ∷ y ∷ more) some = ap (λ (ps : List (List ℕ)). x ∷ ps) (parts_again (y ∷ more) (omega arith))
+whole_joined : (heard more : List ℕ) → whole_lines (heard ++ more) ≡ whole_lines heard ++ whole_lines (unfinished heard ++ more)
+unfolding whole_lines unfinished onward
+whole_joined heard more =
+    ap but_last (parts_joined heard more)
+    ∙ but_last_joined (but_last (slice_split is_newline heard)) (slice_split is_newline (last_part (slice_split is_newline heard) ++ more)) (some_parts (last_part (slice_split is_newline heard) ++ more))
 
-pub whole_in_line : (heard p : List ℕ) → IsInLine p → whole_lines (heard ++ p) ≡ whole_lines heard
+unfinished_joined : (heard more : List ℕ) → unfinished (heard ++ more) ≡ unfinished (unfinished heard ++ more)
+unfolding unfinished onward
+unfinished_joined heard more =
+    ap last_part (parts_joined heard more)
+    ∙ last_joined (but_last (slice_split is_newline heard)) (slice_split is_newline (last_part (slice_split is_newline heard) ++ more)) (some_parts (last_part (slice_split is_newline heard) ++ more))
+
+-- the lines of a stream begin with the whole lines of each of its beginnings
+lines_joined : (heard more : List ℕ) → lines (heard ++ more) ≡ whole_lines heard ++ lines (unfinished heard ++ more)
+unfolding lines
+lines_joined heard more =
+    ap (λ (ls : List (List ℕ)). ls ++ if_not_empty (unfinished (heard ++ more))) (whole_joined heard more)
+    ∙ ap (λ (bytes : List ℕ). (whole_lines heard ++ whole_lines (unfinished heard ++ more)) ++ if_not_empty bytes) (unfinished_joined heard more)
+    ∙ append_assoc (whole_lines heard) (whole_lines (unfinished heard ++ more)) (if_not_empty (unfinished (unfinished heard ++ more)))
+
+-- bytes of one line end none
+whole_none : (bytes : List ℕ) → IsInLine bytes → whole_lines bytes ≡ []
 unfolding whole_lines
-whole_in_line heard p a = ap but_last (parts_in_line heard p a) ∙ but_last_onto (slice_split is_newline heard) p (some_parts heard)
+whole_none bytes a = ap but_last (slice_split_none is_newline bytes a)
 
-pub unfinished_in_line : (heard p : List ℕ) → IsInLine p → unfinished (heard ++ p) ≡ unfinished heard ++ p
+unfinished_none : (bytes : List ℕ) → IsInLine bytes → unfinished bytes ≡ bytes
 unfolding unfinished
-unfinished_in_line heard p a = ap last_part (parts_in_line heard p a) ∙ last_onto (slice_split is_newline heard) p (some_parts heard)
+unfinished_none bytes a = ap last_part (slice_split_none is_newline bytes a)
 
-pub whole_at_newline : (heard : List ℕ) → whole_lines (heard ++ 10 ∷ []) ≡ whole_lines heard ++ unfinished heard ∷ []
-unfolding whole_lines unfinished
-whole_at_newline heard =
-    ap but_last (parts_at_newline heard []) ∙ but_last_ended (slice_split is_newline heard) []
-    ∙ sym (parts_again (slice_split is_newline heard) (some_parts heard))
+-- and with a newline they end one
+whole_one : (bytes : List ℕ) → IsInLine bytes → whole_lines (bytes ++ 10 ∷ []) ≡ bytes ∷ []
+unfolding whole_lines
+whole_one bytes a = ap but_last (slice_split_at is_newline bytes 10 [] a refl)
 
-pub unfinished_at_newline : (heard : List ℕ) → unfinished (heard ++ 10 ∷ []) ≡ []
+unfinished_one : (bytes : List ℕ) → IsInLine bytes → unfinished (bytes ++ 10 ∷ []) ≡ []
 unfolding unfinished
-unfinished_at_newline heard = ap last_part (parts_at_newline heard []) ∙ last_ended (slice_split is_newline heard) []
+unfinished_one bytes a = ap last_part (slice_split_at is_newline bytes 10 [] a refl)
 
--- ---- lines
-
-pub parts_exist : (bytes x : List ℕ) → (but_last (x ∷ slice_split is_newline bytes) ≡ x ∷ but_last (slice_split is_newline bytes)) × (last_part (x ∷ slice_split is_newline bytes) ≡ last_part (slice_split is_newline bytes))
-parts_exist bytes x = at (slice_split is_newline bytes) (some_parts bytes)
+-- what stands after the last newline has none
+rest_in_line : (bytes : List ℕ) → IsInLine (unfinished bytes)
+unfolding unfinished
+rest_in_line [] = empty_in
+rest_in_line (b ∷ bs) = by (rest_in_line bs) (is_newline b) refl
   where
-    at : (parts : List (List ℕ)) → 0 < length parts → (but_last (x ∷ parts) ≡ x ∷ but_last parts) × (last_part (x ∷ parts) ≡ last_part parts)
-    at [] lt = absurd (omega arith)
-    at (p ∷ ps) lt = (refl, refl)
+    later : (x : List ℕ) (ps : List (List ℕ)) → 0 < length ps → last_part (x ∷ ps) ≡ last_part ps
+    later x [] some = absurd (omega arith)
+    later x (p ∷ ps) some = refl
 
-pub lines_at : (xs more : List ℕ) → IsInLine xs → lines (xs ++ 10 ∷ more) ≡ xs ∷ lines more
-unfolding lines whole_lines unfinished
-lines_at xs more p =
-    let parts : List (List ℕ) → List (List ℕ) = λ ps. but_last ps ++ if_not_empty (last_part ps) in
-    ap parts (slice_split_at is_newline xs 10 more p refl)
-    ∙ ap (λ (ps : List (List ℕ)). ps ++ if_not_empty (last_part (xs ∷ slice_split is_newline more))) (parts_exist more xs).0
-    ∙ ap (λ (y : List ℕ). xs ∷ (but_last (slice_split is_newline more) ++ if_not_empty y)) (parts_exist more xs).1
+    onto : (ps : List (List ℕ)) → is_newline b ≡ false → 0 < length ps → IsInLine (last_part ps) → IsInLine (last_part (onto_first b ps))
+    onto [] e some a = absurd (omega arith)
+    onto (p ∷ []) e some a = cons_in b p e a
+    onto (p ∷ q ∷ ps) e some a = a
 
-pub lines_none : (xs : List ℕ) → IsInLine xs → lines xs ≡ if_not_empty xs
-unfolding lines whole_lines unfinished
-lines_none xs p =
-    let parts : List (List ℕ) → List (List ℕ) = λ ps. but_last ps ++ if_not_empty (last_part ps) in
-    ap parts (slice_split_none is_newline xs p)
+    by : IsInLine (last_part (slice_split is_newline bs)) → (t : Bool) → is_newline b ≡ t → IsInLine (last_part (slice_split is_newline (b ∷ bs)))
+    by a true e = subst IsInLine (sym (ap last_part (parts_of_cons b bs true e) ∙ later [] (slice_split is_newline bs) (some_parts bs))) a
+    by a false e = subst IsInLine (sym (ap last_part (parts_of_cons b bs false e))) (onto (slice_split is_newline bs) e (some_parts bs) a)
 
-not_empty : (ys : List ℕ) → 0 < length ys → if_not_empty ys ≡ ys ∷ []
-not_empty [] some = absurd (omega arith)
-not_empty (y ∷ ys) some = refl
+-- bytes of one line before a newline are a line, and the others come after it
+pub lines_at : (bytes more : List ℕ) → IsInLine bytes → lines (bytes ++ 10 ∷ more) ≡ bytes ∷ lines more
+lines_at bytes more a =
+    ap lines (sym (append_assoc bytes (10 ∷ []) more)) ∙ lines_joined (bytes ++ 10 ∷ []) more
+    ∙ ap (λ (ls : List (List ℕ)). ls ++ lines (unfinished (bytes ++ 10 ∷ []) ++ more)) (whole_one bytes a)
+    ∙ ap (λ (rest : List ℕ). bytes ∷ lines (rest ++ more)) (unfinished_one bytes a)
+
+pub unfinished_at : (bytes more : List ℕ) → IsInLine bytes → unfinished (bytes ++ 10 ∷ more) ≡ unfinished more
+unfinished_at bytes more a =
+    ap unfinished (sym (append_assoc bytes (10 ∷ []) more)) ∙ unfinished_joined (bytes ++ 10 ∷ []) more
+    ∙ ap (λ (rest : List ℕ). unfinished (rest ++ more)) (unfinished_one bytes a)
+
+-- ---- lines as they are handed on
+
+cut_long : (bytes : List ℕ) → LINE_LIMIT < length bytes → cut bytes ≡ None
+cut_long bytes long = cond-true _ _ _ (lt-ltb LINE_LIMIT (length bytes) long)
+
+cut_short : (bytes : List ℕ) → length bytes ≤ LINE_LIMIT → cut bytes ≡ Some bytes
+cut_short bytes short = cond-false _ _ _ (le-ltb LINE_LIMIT (length bytes) short)
 
 -- bytes past the limit do not count
-cut_start : (xs p : List ℕ) → cut (start_of xs ++ p) ≡ cut (xs ++ p)
-cut_start xs p = elim (cases_lt 4097 (length xs)) [
-  | inl long ↦
-      let a : 4096 < length (take 4097 xs ++ p) = omega (arith, length-append (take 4097 xs) p, length-take 4097 xs) in
-      let b : 4096 < length (xs ++ p) = omega (arith, length-append xs p) in
-      cond-true _ _ _ (lt-ltb 4096 (length (take 4097 xs ++ p)) a) ∙ sym (cond-true _ _ _ (lt-ltb 4096 (length (xs ++ p)) b))
-  | inr short ↦ ap (λ (ys : List ℕ). cut (ys ++ p)) (take_all 4097 xs short)
+cut_held : (bytes : List ℕ) → cut (take HELD_LIMIT bytes) ≡ cut bytes
+cut_held bytes = elim (cases_lt LINE_LIMIT (length bytes)) [
+  | inl long ↦ cut_long (take HELD_LIMIT bytes) (omega (arith, length-take HELD_LIMIT bytes)) ∙ sym (cut_long bytes long)
+  | inr short ↦ ap cut (take_all HELD_LIMIT bytes (omega arith))
 ]
 
-start_again : (xs p : List ℕ) → start_of (start_of xs ++ p) ≡ start_of (xs ++ p)
-start_again xs p = elim (cases_lt 4097 (length xs)) [
-  | inl long ↦
-      let full : 4097 ≤ length (take 4097 xs) = omega (arith, length-take 4097 xs) in
-      let more : 4097 ≤ length xs = omega arith in
-      take-append-le 4097 (take 4097 xs) p full ∙ take_all 4097 (take 4097 xs) (omega (arith, length-take 4097 xs)) ∙ sym (take-append-le 4097 xs p more)
-  | inr short ↦ ap (λ (ys : List ℕ). start_of (ys ++ p)) (take_all 4097 xs short)
+-- lines that are handed on as one are so with more bytes too
+cut_grown : (xs ys more : List ℕ) → cut xs ≡ cut ys → cut (xs ++ more) ≡ cut (ys ++ more)
+cut_grown xs ys more e = elim (cases_lt LINE_LIMIT (length xs)) [
+  | inl long ↦ elim (cases_lt LINE_LIMIT (length ys)) [
+    | inl other ↦ cut_long (xs ++ more) (omega (arith, length-append xs more)) ∙ sym (cut_long (ys ++ more) (omega (arith, length-append ys more)))
+    | inr short ↦ absurd (differ (sym (cut_long xs long) ∙ e ∙ cut_short ys short))
+  ]
+  | inr short ↦ elim (cases_lt LINE_LIMIT (length ys)) [
+    | inl long ↦ absurd (differ (sym (cut_long ys long) ∙ sym e ∙ cut_short xs short))
+    | inr other ↦ ap (λ (zs : List ℕ). cut (zs ++ more)) (same (sym (cut_short xs short) ∙ e ∙ cut_short ys other))
+  ]
+]
+  where
+    differ : {zs : List ℕ} → None ≡ Some zs → ⊥
+    differ h = cc
+
+    same : Some xs ≡ Some ys → xs ≡ ys
+    same h = cc
+
+-- and are both a last line or both none
+cut_last : (xs ys : List ℕ) → cut xs ≡ cut ys → map cut (if_not_empty xs) ≡ map cut (if_not_empty ys)
+cut_last [] [] e = refl
+cut_last [] (y ∷ ys) e = absurd (elim (cases_lt LINE_LIMIT (length (y ∷ ys))) [
+  | inl long ↦ let h : Some [] ≡ None = e ∙ cut_long (y ∷ ys) long in cc
+  | inr short ↦ let h : Some [] ≡ Some (y ∷ ys) = e ∙ cut_short (y ∷ ys) short in cc
+])
+cut_last (x ∷ xs) [] e = absurd (elim (cases_lt LINE_LIMIT (length (x ∷ xs))) [
+  | inl long ↦ let h : Some [] ≡ None = sym e ∙ cut_long (x ∷ xs) long in cc
+  | inr short ↦ let h : Some [] ≡ Some (x ∷ xs) = sym e ∙ cut_short (x ∷ xs) short in cc
+])
+cut_last (x ∷ xs) (y ∷ ys) e = ap (λ (c : Cut). c ∷ []) e
+
+-- a cutter that holds nothing
+pub holds_nothing : (held : List ℕ) (cutter : Cut) → cut held ≡ cutter → cutter ≡ Some [] → held ≡ []
+holds_nothing held cutter was e = elim (cases_lt LINE_LIMIT (length held)) [
+  | inl long ↦ absurd (let h : None ≡ Some [] = sym (cut_long held long) ∙ was ∙ e in cc)
+  | inr short ↦ let h : Some held ≡ Some [] = sym (cut_short held short) ∙ was ∙ e in cc
 ]
 
-cut_none : (xs p : List ℕ) → IsInLine xs → IsInLine p → cut_lines (start_of xs ++ p) ≡ cut_lines (xs ++ p)
-unfolding cut_lines
-cut_none xs p a b =
-    ap (map cut) (lines_none (start_of xs ++ p) (append_in (start_of xs) p (take_in 4097 xs a) b)) ∙ same xs
-    ∙ ap (map cut) (sym (lines_none (xs ++ p) (append_in xs p a b)))
-  where
-    same : (xs : List ℕ) → map cut (if_not_empty (start_of xs ++ p)) ≡ map cut (if_not_empty (xs ++ p))
-    same [] = refl
-    same (x ∷ xs) =
-        let few : 0 < length (start_of (x ∷ xs) ++ p) = omega (arith, length-append (start_of (x ∷ xs)) p, length-take 4097 (x ∷ xs)) in
-        let all : 0 < length (x ∷ xs ++ p) = omega (arith, length-append (x ∷ xs) p) in
-        ap (map cut) (not_empty (start_of (x ∷ xs) ++ p) few) ∙ ap (λ (c : Cut). c ∷ []) (cut_start (x ∷ xs) p)
-        ∙ ap (map cut) (sym (not_empty (x ∷ xs ++ p) all))
+-- ---- the first newline of a piece
 
-cut_at : (xs p more : List ℕ) → IsInLine xs → IsInLine p → cut_lines (xs ++ (p ++ 10 ∷ more)) ≡ cut (xs ++ p) ∷ cut_lines more
-unfolding cut_lines
-cut_at xs p more a b = ap (λ (ys : List ℕ). map cut (lines ys)) (sym (append_assoc xs p (10 ∷ more))) ∙ ap (map cut) (lines_at (xs ++ p) more (append_in xs p a b))
-
-pub forgotten : (xs more : List ℕ) → IsInLine xs → cut_lines (start_of xs ++ more) ≡ cut_lines (xs ++ more)
-forgotten xs more a = by (split_front more)
-  where
-    by : (p : List ℕ) × IsInLine p × ((more ≡ p) ⊎ ((rest : List ℕ) × (more ≡ p ++ 10 ∷ rest))) → cut_lines (start_of xs ++ more) ≡ cut_lines (xs ++ more)
-    by t = elim t.2 [
-      | inl same ↦ ap (λ (ys : List ℕ). cut_lines (start_of xs ++ ys)) same ∙ cut_none xs t.0 a t.1 ∙ ap (λ (ys : List ℕ). cut_lines (xs ++ ys)) (sym same)
-      | inr found ↦
-          ap (λ (ys : List ℕ). cut_lines (start_of xs ++ ys)) found.1 ∙ cut_at (start_of xs) t.0 found.0 (take_in 4097 xs a) t.1
-          ∙ ap (λ (c : Cut). c ∷ cut_lines found.0) (cut_start xs t.0) ∙ sym (cut_at xs t.0 found.0 a t.1) ∙ ap (λ (ys : List ℕ). cut_lines (xs ++ ys)) (sym found.1)
-    ]
-
--- ---- one piece
-
-some_place : (xs : List ℕ) (i : ℕ) → position is_newline xs ≡ Some i → IsInLine (take i xs) × (xs ≡ take i xs ++ 10 ∷ drop (i + 1) xs) × (i < length xs)
-some_place xs i e =
-    let at : (d : ℕ) → (i < length xs) × (is_newline (get_or xs i d) ≡ true) × ((k : ℕ) → k < i → is_newline (get_or xs k d) ≡ false) = λ d. position-Some is_newline xs i d e in
-    let nl : get_or xs i 0 ≡ 10 = eqb-true (get_or xs i 0) 10 (at 0).1 in (
-      λ k d lt. let below : k < i = omega (arith, length-take i xs) in rw get_or-take ((at d).2 k below),
-      sym (ap (λ (x : ℕ). take i xs ++ (x ∷ drop (i + 1) xs)) (sym nl) ∙ ap (λ (ys : List ℕ). take i xs ++ ys) (rw add-one (sym (drop-cons xs i 0 (at 0).0))) ∙ take-append-drop i xs),
-      (at 0).0,
+some_place : (piece : List ℕ) (i : ℕ) → position is_newline piece ≡ Some i → (i + 1 ≡ through_newline piece) × IsInLine (take i piece) × (take (i + 1) piece ≡ take i piece ++ 10 ∷ [])
+some_place piece i e =
+    let at : (d : ℕ) → (i < length piece) × (is_newline (get_or piece i d) ≡ true) × ((k : ℕ) → k < i → is_newline (get_or piece k d) ≡ false) = λ d. position-Some is_newline piece i d e in
+    let place : position_or_len is_newline piece ≡ i = is_place (nat_lt (position_or_len is_newline piece) (length piece)) (position_or_len is_newline piece) e in
+    let newline : get_or piece i 0 ≡ 10 = eqb-true (get_or piece i 0) 10 (at 0).1 in
+    let within : i < length piece = (at 0).0 in (
+      omega (arith, place, within),
+      λ k d lt. let below : k < i = omega (arith, length-take i piece) in rw get_or-take ((at d).2 k below),
+      rw add-one (take-suc piece i 0 within) ∙ ap (λ (b : ℕ). take i piece ++ b ∷ []) newline,
     )
-
-none_place : (xs : List ℕ) → position is_newline xs ≡ None → IsInLine xs
-none_place xs e k d lt = fails_before_first is_newline xs k d (omega (arith, none_is (nat_lt (position_or_len is_newline xs) (length xs)) (position_or_len is_newline xs) e, ltb-false (position_or_len is_newline xs) (length xs)))
   where
-    none_is : (t : Bool) (n : ℕ) → cond t (Some n) None ≡ None → t ≡ false
-    none_is true n h = absurd (cc)
-    none_is false n h = refl
+    is_place : (t : Bool) (n : ℕ) → cond t (Some n) None ≡ Some i → n ≡ i
+    is_place true n h = cc
+    is_place false n h = absurd (cc)
 
-pub all_in : (piece : List ℕ) → None ≡ position is_newline piece → IsInLine piece
-all_in piece e = none_place piece (sym e)
+no_place : (piece : List ℕ) → position is_newline piece ≡ None → (length piece ≡ through_newline piece) × IsInLine piece
+no_place piece e =
+    let none_is : nat_lt (position_or_len is_newline piece) (length piece) ≡ false = is_false (nat_lt (position_or_len is_newline piece) (length piece)) (position_or_len is_newline piece) e in
+    let beyond : length piece ≤ position_or_len is_newline piece = ltb-false (position_or_len is_newline piece) (length piece) none_is in (
+      omega (arith, beyond),
+      λ k d lt. fails_before_first is_newline piece k d (omega (arith, beyond)),
+    )
+  where
+    is_false : (t : Bool) (n : ℕ) → cond t (Some n) None ≡ None → t ≡ false
+    is_false true n h = absurd (cc)
+    is_false false n h = refl
 
-pub taken_some : (held piece : List ℕ) (line : Cut) (i : ℕ) → Some i ≡ position is_newline piece → line ≡ cut (held ++ take i piece) → (i + 1, Some line, []) ≡ taken held piece
-unfolding taken
-taken_some held piece line i e l = ap (λ (x : Cut). (i + 1, Some x, [])) l ∙ ap (taken_to held piece) e
+piece_in_line : (piece : List ℕ) → None ≡ position is_newline piece → IsInLine piece
+piece_in_line piece e = (no_place piece (sym e)).1
 
-pub taken_none : (held piece held' : List ℕ) → None ≡ position is_newline piece → held' ≡ start_of (held ++ piece) → (length piece, None, held') ≡ taken held piece
-unfolding taken
-taken_none held piece held' e h = ap (λ (x : List ℕ). (length piece, None, x)) h ∙ ap (taken_to held piece) e
+-- ---- what a cutter holds
 
-kept_by : (held piece : List ℕ) → IsInLine held → (o : Option ℕ) → position is_newline piece ≡ o → Kept held piece (taken_to held piece o)
-kept_by held piece a None e = record {
-  used = omega arith;
-  some = λ h. h;
-  same = λ more.
-      ap (λ (ys : List ℕ). cut_lines (start_of (held ++ piece) ++ (ys ++ more))) (drop_all (length piece) piece (omega arith))
-      ∙ forgotten (held ++ piece) more (append_in held piece a (none_place piece e)) ∙ ap cut_lines (append_assoc held piece more);
-}
-kept_by held piece a (Some i) e =
-    let at = some_place piece i e in
-    record {
-      used = omega (arith, at.2);
-      some = λ h. omega arith;
-      same = λ more.
-          sym (cut_at held (take i piece) (drop (i + 1) piece ++ more) a at.0)
-          ∙ ap (λ (ys : List ℕ). cut_lines (held ++ ys)) (sym (append_assoc (take i piece) (10 ∷ drop (i + 1) piece) more) ∙ ap (λ (ys : List ℕ). ys ++ more) (sym at.1));
-    }
+pub held_more : (held piece now : List ℕ) → IsHeld held → None ≡ position is_newline piece → now ≡ take HELD_LIMIT (held ++ piece) → IsHeld now
+held_more held piece now h e is = subst IsHeld (sym is) (record {
+  in_line = take_in HELD_LIMIT (held ++ piece) (append_in held piece h.in_line (piece_in_line piece e));
+  few = omega (arith, length-take HELD_LIMIT (held ++ piece));
+})
 
-pub kept : (held piece : List ℕ) → IsInLine held → (t : Taken) → t ≡ taken held piece → Kept held piece t
-unfolding taken
-kept held piece a t e = subst (Kept held piece) (sym e) (kept_by held piece a (position is_newline piece) refl)
-
--- a step of a reader that keeps the lines that it was given: before are those that it had, now those that it has
-pub stepped : (held piece : List ℕ) (before now : List Cut) (t : Taken) → IsInLine held → t ≡ taken held piece → now ≡ before ++ option_to_list t.1 → (more : List ℕ)
-    → now ++ cut_lines (t.2 ++ (drop t.0 piece ++ more)) ≡ before ++ cut_lines (held ++ (piece ++ more))
-stepped held piece before now t a e n more =
-    ap (λ (cs : List Cut). cs ++ cut_lines (t.2 ++ (drop t.0 piece ++ more))) n
-    ∙ append_assoc before (option_to_list t.1) (cut_lines (t.2 ++ (drop t.0 piece ++ more)))
-    ∙ ap (λ (cs : List Cut). before ++ cs) ((kept held piece a t e).same more)
-
-pub holds : (held bytes few : List ℕ) (room : ℕ) → room + length held ≡ 4097 → few ≡ take room bytes → held ++ few ≡ start_of (held ++ bytes)
-holds held bytes few room fit f =
+pub added : (held bytes few : List ℕ) (room : ℕ) → room + length held ≡ HELD_LIMIT → few ≡ take room bytes → held ++ few ≡ take HELD_LIMIT (held ++ bytes)
+added held bytes few room fit f =
     ap (λ (ys : List ℕ). held ++ ys) f ∙ sym (rw (← fit) (ap (λ (n : ℕ). take n (held ++ bytes)) (add_comm room (length held)) ∙ take-append-add held bytes room))
 
--- at the end of a stream the held bytes are its last line
-pub ends : (held : List ℕ) → IsInLine held → cut_lines held ≡ option_to_list (last_line held)
+-- ---- what was cut of the bytes heard
+
+first_lines : (heard more : List ℕ) → BeginsWith (cut_lines (heard ++ more)) (map cut (whole_lines heard))
 unfolding cut_lines
-ends held a = ap (map cut) (lines_none held a) ∙ by held
-  where
-    by : (xs : List ℕ) → map cut (if_not_empty xs) ≡ option_to_list (last_line xs)
-    by [] = refl
-    by (x ∷ xs) = refl
+first_lines heard more =
+    (map cut (lines (unfinished heard ++ more)), ap (map cut) (lines_joined heard more) ∙ map-append cut (whole_lines heard) (lines (unfinished heard ++ more)))
 
--- ---- all that was heard
+has_cut : (heard : List ℕ) (given : List Cut) (cutter : Cut) → given ≡ map cut (whole_lines heard) → cutter ≡ cut (unfinished heard) → HasCut heard given cutter
+has_cut heard given cutter whole rest = record {
+  whole = whole;
+  rest = rest;
+  first = λ more. let B : List Cut → Type 0 = BeginsWith (cut_lines (heard ++ more)) in subst B (sym whole) (first_lines heard more);
+}
 
-pub given_nothing : Given [] [] []
+pub begins : (cutter : Cut) → cutter ≡ cut [] → HasCut [] [] cutter
 unfolding whole_lines unfinished
-given_nothing = record { are_whole = refl; is_rest = refl }
+begins cutter e = has_cut [] [] cutter refl e
 
-map_end : (xs : List (List ℕ)) (x : List ℕ) → map cut (xs ++ x ∷ []) ≡ map cut xs ++ cut x ∷ []
-map_end [] x = refl
-map_end (y ∷ xs) x = ap (λ (cs : List Cut). cut y ∷ cs) (map_end xs x)
-
-take_through : (xs : List ℕ) (i : ℕ) → xs ≡ take i xs ++ 10 ∷ drop (i + 1) xs → i < length xs → take (i + 1) xs ≡ take i xs ++ 10 ∷ []
-take_through xs i e lt =
-    let front : length (take i xs) ≡ i = omega (arith, length-take i xs) in
-    ap (take (i + 1)) e ∙ ap (λ (n : ℕ). take (n + 1) (take i xs ++ 10 ∷ drop (i + 1) xs)) (sym front) ∙ take-append-add (take i xs) (10 ∷ drop (i + 1) xs) 1
-
-more_by : (heard piece : List ℕ) (o : Option ℕ) → position is_newline piece ≡ o
-    → let t = taken_to (start_of (unfinished heard)) piece o in Given (heard ++ take t.0 piece) t.2 (map cut (whole_lines heard) ++ option_to_list t.1)
-more_by heard piece None e =
-    let a = none_place piece e in
-    let all : take (length piece) piece ≡ piece = take_all (length piece) piece (omega arith) in
-    record {
-      are_whole = append-nil (map cut (whole_lines heard)) ∙ ap (map cut) (sym (whole_in_line heard piece a)) ∙ ap (λ (p : List ℕ). map cut (whole_lines (heard ++ p))) (sym all);
-      is_rest = start_again (unfinished heard) piece ∙ ap start_of (sym (unfinished_in_line heard piece a)) ∙ ap (λ (p : List ℕ). start_of (unfinished (heard ++ p))) (sym all);
-    }
-more_by heard piece (Some i) e =
-    let at = some_place piece i e in
-    let through : heard ++ take (i + 1) piece ≡ (heard ++ take i piece) ++ 10 ∷ []
-    = ap (λ (p : List ℕ). heard ++ p) (take_through piece i at.1 at.2) ∙ sym (append_assoc heard (take i piece) (10 ∷ [])) in
-    record {
-      are_whole =
-          ap (λ (c : Cut). map cut (whole_lines heard) ++ c ∷ []) (cut_start (unfinished heard) (take i piece))
-          ∙ sym (map_end (whole_lines heard) (unfinished heard ++ take i piece))
-          ∙ ap (λ (x : List ℕ). map cut (whole_lines heard ++ x ∷ [])) (sym (unfinished_in_line heard (take i piece) at.0))
-          ∙ ap (λ (xs : List (List ℕ)). map cut (xs ++ unfinished (heard ++ take i piece) ∷ [])) (sym (whole_in_line heard (take i piece) at.0))
-          ∙ ap (map cut) (sym (whole_at_newline (heard ++ take i piece))) ∙ ap (λ (p : List ℕ). map cut (whole_lines p)) (sym through);
-      is_rest = ap start_of (sym (unfinished_at_newline (heard ++ take i piece))) ∙ ap (λ (p : List ℕ). start_of (unfinished p)) (sym through);
-    }
-
--- a step with more bytes
-pub given_more : (heard held piece : List ℕ) (given : List Cut) (t : Taken) → Given heard held given → t ≡ taken held piece
-    → Given (heard ++ take t.0 piece) t.2 (given ++ option_to_list t.1)
-unfolding taken
-given_more heard held piece given t g e =
-    let at : t ≡ taken_to (start_of (unfinished heard)) piece (position is_newline piece)
-    = e ∙ ap (λ (h : List ℕ). taken_to h piece (position is_newline piece)) g.is_rest in
-    let more = more_by heard piece (position is_newline piece) refl in
-    rw (at, g.are_whole) more
-
--- at the end of the stream
-pub given_all : (heard held : List ℕ) (given : List Cut) → Given heard held given → given ++ option_to_list (last_line held) ≡ cut_lines heard
-unfolding cut_lines lines
-given_all heard held given g =
-    rw (g.are_whole, g.is_rest) (ap (λ (cs : List Cut). map cut (whole_lines heard) ++ cs) (last (unfinished heard)) ∙ sym (map_both (whole_lines heard) (if_not_empty (unfinished heard))))
+-- a piece without a newline is held
+pub takes_none : (old new : Cut) (held now piece : List ℕ) → cut held ≡ old → new ≡ cut now → None ≡ position is_newline piece → now ≡ take HELD_LIMIT (held ++ piece) → Takes old piece (length piece) None new
+takes_none old new held now piece was is e more = record {
+  through = (no_place piece (sym e)).0;
+  cuts = λ heard given h. let H : List ℕ → Type 0 = λ bytes. HasCut (heard ++ bytes) (given ++ []) new in
+      subst H (sym (take_all (length piece) piece (omega arith))) (cuts heard given h);
+}
   where
-    last : (xs : List ℕ) → option_to_list (last_line (start_of xs)) ≡ map cut (if_not_empty xs)
-    last [] = refl
-    last (x ∷ xs) = ap (λ (c : Cut). c ∷ []) (ap cut (sym (append-nil (start_of (x ∷ xs)))) ∙ cut_start (x ∷ xs) [] ∙ ap cut (append-nil (x ∷ xs)))
+    in_line : IsInLine piece
+    in_line = piece_in_line piece e
 
-    map_both : (xs ys : List (List ℕ)) → map cut (xs ++ ys) ≡ map cut xs ++ map cut ys
-    map_both [] ys = refl
-    map_both (x ∷ xs) ys = ap (λ (cs : List Cut). cut x ∷ cs) (map_both xs ys)
+    cuts : (heard : List ℕ) (given : List Cut) → HasCut heard given old → HasCut (heard ++ piece) (given ++ []) new
+    cuts heard given h =
+        let open_line : IsInLine (unfinished heard ++ piece) = append_in (unfinished heard) piece (rest_in_line heard) in_line in
+        has_cut (heard ++ piece) (given ++ []) new
+        (append-nil given ∙ h.whole ∙ ap (map cut) (sym (whole_joined heard piece ∙ ap (λ (ls : List (List ℕ)). whole_lines heard ++ ls) (whole_none (unfinished heard ++ piece) open_line) ∙ append-nil (whole_lines heard))))
+        (is ∙ ap cut more ∙ cut_held (held ++ piece) ∙ cut_grown held (unfinished heard) piece (was ∙ h.rest) ∙ ap cut (sym (unfinished_joined heard piece ∙ unfinished_none (unfinished heard ++ piece) open_line)))
+
+-- a newline ends the line
+pub takes_some : (old new : Cut) (held now piece : List ℕ) (i : ℕ) (line : Cut) → cut held ≡ old → new ≡ cut now → Some i ≡ position is_newline piece → line ≡ cut (held ++ take i piece) → now ≡ []
+    → Takes old piece (i + 1) (Some line) new
+takes_some old new held now piece i line was is e ended none_left = record {
+  through = at.0;
+  cuts = λ heard given h. let H : List ℕ → Type 0 = λ bytes. HasCut (heard ++ bytes) (given ++ line ∷ []) new in subst H (sym at.2) (cuts heard given h);
+}
+  where
+    front : List ℕ
+    front = take i piece
+
+    at : (i + 1 ≡ through_newline piece) × IsInLine front × (take (i + 1) piece ≡ front ++ 10 ∷ [])
+    at = some_place piece i (sym e)
+
+    cuts : (heard : List ℕ) (given : List Cut) → HasCut heard given old → HasCut (heard ++ (front ++ 10 ∷ [])) (given ++ line ∷ []) new
+    cuts heard given h =
+        let rest : List ℕ = unfinished heard in
+        let open_line : IsInLine (rest ++ front) = append_in rest front (rest_in_line heard) at.1 in
+        let bytes : rest ++ (front ++ 10 ∷ []) ≡ (rest ++ front) ++ 10 ∷ [] = sym (append_assoc rest front (10 ∷ [])) in
+        let whole : whole_lines (heard ++ (front ++ 10 ∷ [])) ≡ whole_lines heard ++ (rest ++ front) ∷ []
+        = whole_joined heard (front ++ 10 ∷ []) ∙ ap (λ (ls : List (List ℕ)). whole_lines heard ++ ls) (ap whole_lines bytes ∙ whole_one (rest ++ front) open_line) in
+        let line_is : line ≡ cut (rest ++ front) = ended ∙ cut_grown held rest front (was ∙ h.rest) in
+        has_cut (heard ++ (front ++ 10 ∷ [])) (given ++ line ∷ []) new
+        (ap (λ (ls : List Cut). ls ++ line ∷ []) h.whole ∙ ap (λ (c : Cut). map cut (whole_lines heard) ++ c ∷ []) line_is ∙ sym (map-append cut (whole_lines heard) ((rest ++ front) ∷ [])) ∙ ap (map cut) (sym whole))
+        (is ∙ ap cut none_left ∙ ap cut (sym (unfinished_joined heard (front ++ 10 ∷ []) ∙ ap unfinished bytes ∙ unfinished_one (rest ++ front) open_line)))
+
+-- at the end of a stream the held bytes are its last line
+pub finishes : (old new : Cut) (held now : List ℕ) (line : Option Cut) → cut held ≡ old → new ≡ cut now → option_to_list line ≡ map cut (if_not_empty held) → now ≡ [] → Finishes old line new
+unfolding cut_lines lines
+finishes old new held now line was is last none_left = record { last = all; begins = begins new (is ∙ ap cut none_left) }
+  where
+    all : (heard : List ℕ) (given : List Cut) → HasCut heard given old → given ++ option_to_list line ≡ cut_lines heard
+    all heard given h =
+        ap (λ (ls : List Cut). ls ++ option_to_list line) h.whole
+        ∙ ap (λ (ls : List Cut). map cut (whole_lines heard) ++ ls) (last ∙ cut_last held (unfinished heard) (was ∙ h.rest))
+        ∙ sym (map-append cut (whole_lines heard) (if_not_empty (unfinished heard)))
+
+-- ---- all pieces
+
+taken_all : (pieces : List (List ℕ)) (old new : Cut) (given : List Cut) → TakesAll pieces old given new → (heard : List ℕ) (before : List Cut) → HasCut heard before old → HasCut (heard ++ concat pieces) (before ++ given) new
+taken_all pieces old new given none heard before h =
+    let H : List ℕ → List Cut → Type 0 = λ bytes ls. HasCut bytes ls new in
+    let B : List ℕ → Type 0 = λ bytes. HasCut bytes (before ++ []) new in
+    let L : List Cut → Type 0 = H heard in subst B (sym (append-nil heard)) (subst L (sym (append-nil before)) h)
+taken_all pieces old new given (used_up more) heard before h = taken_all _ old new given more heard before h
+taken_all pieces old new given (takes {piece = piece} {pieces = others} {used = used} {line = line} {mid = mid} {given = later} first more) heard before h =
+    let then : HasCut ((heard ++ take used piece) ++ (drop used piece ++ concat others)) ((before ++ option_to_list line) ++ later) new
+    = taken_all _ mid new later more (heard ++ take used piece) (before ++ option_to_list line) (first.cuts heard before h) in
+    let bytes : (heard ++ take used piece) ++ (drop used piece ++ concat others) ≡ heard ++ (piece ++ concat others)
+    = append_assoc heard (take used piece) (drop used piece ++ concat others)
+    ∙ ap (λ (p : List ℕ). heard ++ p) (sym (append_assoc (take used piece) (drop used piece) (concat others)) ∙ ap (λ (p : List ℕ). p ++ concat others) (take-append-drop used piece)) in
+    let B : List ℕ → Type 0 = λ bs. HasCut bs ((before ++ option_to_list line) ++ later) new in
+    let L : List Cut → Type 0 = λ ls. HasCut (heard ++ (piece ++ concat others)) ls new in
+    subst L (append_assoc before (option_to_list line) later) (subst B bytes then)
+
+pub any_pieces : (pieces : List (List ℕ)) (first last end : Cut) (given : List Cut) (line : Option Cut) → HasCut [] [] first → TakesAll pieces first given last → Finishes last line end → given ++ option_to_list line ≡ cut_lines (concat pieces)
+any_pieces pieces first last end given line h all f = f.last (concat pieces) given (taken_all pieces first last given all [] [] h)

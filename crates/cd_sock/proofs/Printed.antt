@@ -1,17 +1,25 @@
 -- Replies, printed line by line.
-use Rattle.std.proofs.Common.{◌≡◌, ℕ, Bool, cond, [], ◌∷◌, ◌++◌, sym, ap, ◌∙◌, append_assoc}
+use Rattle.std.proofs.Common.{◌≡◌, ℕ, Bool, cond, List, [], ◌∷◌, ◌++◌, sym, ap, ◌∙◌, append_assoc}
 use Rattle.std.specs.Prelude.{codes}
 use Rattle.std.specs.Fmt.{decimal}
 use Rattle.std.proofs.lemmas.Bool.{eq-eqb, ne_eqb}
-use Rattle.cd_sock.specs.Replies.{line, values_found}
+use Rattle.cd_sock.specs.Replies.{flushed_line, with_newline, values_found}
 
 -- the first line of one value, and of another number of values
 pub one_value : (n : ℕ) → n ≡ 1 → decimal n ++ codes " Value found\n" ≡ values_found n
 one_value n e =
     sym (append_assoc (decimal n) (codes " Value found") (10 ∷ []))
-    ∙ ap (λ (b : Bool). line (decimal n ++ cond b (codes " Value found") (codes " Values found"))) (sym (eq-eqb n 1 e))
+    ∙ ap (λ (b : Bool). with_newline (decimal n ++ cond b (codes " Value found") (codes " Values found"))) (sym (eq-eqb n 1 e))
 
 pub other_values : (n : ℕ) → (n ≡ 1 → ⊥) → decimal n ++ codes " Values found\n" ≡ values_found n
 other_values n e =
     sym (append_assoc (decimal n) (codes " Values found") (10 ∷ []))
-    ∙ ap (λ (b : Bool). line (decimal n ++ cond b (codes " Value found") (codes " Values found"))) (sym (ne_eqb n 1 e))
+    ∙ ap (λ (b : Bool). with_newline (decimal n ++ cond b (codes " Value found") (codes " Values found"))) (sym (ne_eqb n 1 e))
+
+-- the reply with the numbers of flushes
+pub flushes : (successful errors : ℕ) → codes "0 Done: " ++ (decimal successful ++ (codes " successful, " ++ (decimal errors ++ codes " errors\n"))) ≡ flushed_line successful errors
+flushes successful errors =
+    let before : List ℕ = codes "0 Done: " ++ decimal successful ++ codes " successful, " in
+    sym (append_assoc (before ++ decimal errors) (codes " errors") (10 ∷ []) ∙ append_assoc before (decimal errors) (codes " errors\n")
+    ∙ append_assoc (codes "0 Done: " ++ decimal successful) (codes " successful, ") (decimal errors ++ codes " errors\n")
+    ∙ append_assoc (codes "0 Done: ") (decimal successful) (codes " successful, " ++ (decimal errors ++ codes " errors\n")))

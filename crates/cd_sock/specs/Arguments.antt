@@ -7,8 +7,8 @@ use Rattle.cd_text.specs.declared.word.Word.{Word}
 use Rattle.cd_text.specs.Time.{time_of}
 
 -- the text is the name, whatever the case of its letters
-abbrev pub is_named : List ℕ → List ℕ → Bool
-is_named name text = str_eq_ignore_ascii_case text name
+abbrev pub is_keyword : List ℕ → List ℕ → Bool
+is_keyword name text = str_eq_ignore_ascii_case text name
 
 abbrev pub is_equals : ℕ → Bool
 is_equals byte = byte == 61

@@ -23,10 +23,10 @@ with_fault f (Err e) = Err (f e)
 
 -- the value, or the fault where there is none
 abbrev pub need : {A : Type 0} → LineFault → Option A → Result A LineFault
-need fault None = Err fault
-need fault (Some x) = Ok x
+need missing None = Err missing
+need missing (Some x) = Ok x
 
 -- the fault of an error, and none for want of memory
-abbrev pub fault : LineFault → Option LineFault
-fault Memory = None
-fault other = Some other
+abbrev pub line_fault : LineFault → Option LineFault
+line_fault Memory = None
+line_fault other = Some other

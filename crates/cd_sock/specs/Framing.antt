@@ -10,17 +10,17 @@ abbrev pub is_space : ℕ → Bool
 is_space byte = byte == 32
 
 -- what stands before the first space of a line
-abbrev pub first_word : List ℕ → List ℕ
-first_word line = before_first is_space line
+abbrev pub status_word : List ℕ → List ℕ
+status_word line = before_first is_space line
 
 -- a line begins with a number, which may have a sign, and a space
 pub record HasStatus (line : List ℕ) : Type 0 where
-  pub number : IsNumeral 10 (without_leading_sign (first_word line))
+  pub number : IsNumeral 10 (without_leading_sign (status_word line))
   pub space : IsTrue (list_any is_space line)
 
 -- that number
 abbrev pub status : List ℕ → ℤ
-status line = signed_digits_value 10 (first_word line)
+status line = signed_digits_value 10 (status_word line)
 
 -- how many lines a status tells of: none where it is below 0
 abbrev pub lines_told : ℤ → ℕ

@@ -1,9 +1,13 @@
--- The lines of a stream of bytes.
-use Rattle.std.specs.Prelude.{◌≡◌, ℕ, ◌+◌, ◌==◌, ◌<◌, ◌≤◌, List, [], ◌∷◌, ◌++◌, map, length, take, drop, Option, Some, None, Bool, false, nat_lt, if◌then◌else◌}
-use Rattle.std.specs.List.{slice_split, position, All}
+-- The lines of a stream of bytes, and what a cutter does with the pieces of one.
+use Rattle.std.specs.Prelude.{◌≡◌, ℕ, ◌+◌, ◌≤◌, ◌==◌, min, List, [], ◌∷◌, ◌++◌, map, length, take, drop, Option, Some, None, Bool, false, nat_lt, if◌then◌else◌}
+use Rattle.std.specs.Cow.{cow_slice_items}
+use Rattle.std.specs.List.{All, position_or_len, slice_split}
 use Rattle.std.specs.Option.{option_to_list}
+use Rattle.cd_sock.specs.declared.lines.TheConstants.{LINE_LIMIT, HELD_LIMIT}
 use Rattle.cd_sock.specs.declared.lines.Line.{Line}
 use Rattle.cd_sock.specs.declared.lines.Line.TheVariants.{Whole, TooLong}
+
+-- ---- the lines of all bytes
 
 abbrev pub is_newline : ℕ → Bool
 is_newline byte = byte == 10
@@ -34,55 +38,62 @@ if_not_empty (byte ∷ bytes) = (byte ∷ bytes) ∷ []
 unfoldable pub lines : List ℕ → List (List ℕ)
 lines bytes = whole_lines bytes ++ if_not_empty (unfinished bytes)
 
--- a line as it is handed on: none for one of more than 4096 bytes
+-- a line as it is handed on: none for one of more than LINE_LIMIT bytes
 abbrev pub Cut : Type 0
 Cut = Option (List ℕ)
 
 abbrev pub cut : List ℕ → Cut
-cut line = if nat_lt 4096 (length line) then None else Some line
+cut line = if nat_lt LINE_LIMIT (length line) then None else Some line
 
 unfoldable pub cut_lines : List ℕ → List Cut
 cut_lines bytes = map cut (lines bytes)
+
+-- the bytes of a line that is not too long
+abbrev pub content : Line → Cut
+content (Whole bytes) = Some (cow_slice_items bytes)
+content TooLong = None
+
+-- ---- a cutter, of which contracts see what came since the last newline, as a line is handed on
 
 -- bytes of one line
 abbrev pub IsInLine : List ℕ → Type 0
 IsInLine bytes = All (λ byte. is_newline byte ≡ false) bytes
 
--- the bytes of a line that is not too long
-abbrev pub content : Line → Cut
-content (Whole bytes) = Some bytes.items
-content TooLong = None
+-- what a cutter keeps since the last newline: as many bytes as tell whether the line is too long
+pub record IsHeld (bytes : List ℕ) : Type 0 where
+  pub in_line : IsInLine bytes
+  pub few : length bytes ≤ HELD_LIMIT
 
--- of an unfinished line 4097 bytes tell whether it is too long
-abbrev pub start_of : List ℕ → List ℕ
-start_of bytes = take 4097 bytes
+-- a list begins with another
+abbrev pub BeginsWith : List Cut → List Cut → Type 0
+BeginsWith all first = (rest : List Cut) × (all ≡ first ++ rest)
 
--- what a piece gives after the held bytes of an unfinished line:
--- how many of its bytes are used, the line that they end, and what is held then
-abbrev pub Taken : Type 0
-Taken = ℕ × Option Cut × List ℕ
+-- of the bytes heard so far the lines that end with a newline were given, and the cutter has the unfinished one
+pub record HasCut (heard : List ℕ) (given : List Cut) (cutter : Cut) : Type 0 where
+  pub whole : given ≡ map cut (whole_lines heard)
+  pub rest : cutter ≡ cut (unfinished heard)
+  -- however the stream goes on, its lines begin with those given
+  pub first : (more : List ℕ) → BeginsWith (cut_lines (heard ++ more)) given
 
-abbrev pub taken_to : List ℕ → List ℕ → Option ℕ → Taken
-taken_to held piece None = (length piece, None, start_of (held ++ piece))
-taken_to held piece (Some place) = (place + 1, Some (cut (held ++ take place piece)), [])
+-- how many bytes of a piece stand before and with its first newline, or all where it has none
+abbrev pub through_newline : List ℕ → ℕ
+through_newline piece = min (position_or_len is_newline piece + 1) (length piece)
 
--- a piece is used up to and with its first newline, or whole where it has none
-unfoldable pub taken : List ℕ → List ℕ → Taken
-taken held piece = taken_to held piece (position is_newline piece)
+-- a call of `take` uses a piece through its first newline, and cuts those bytes
+pub record Takes (old : Cut) (piece : List ℕ) (used : ℕ) (line : Option Cut) (new : Cut) : Type 0 where
+  pub through : used ≡ through_newline piece
+  pub cuts : (heard : List ℕ) (given : List Cut) → HasCut heard given old → HasCut (heard ++ take used piece) (given ++ option_to_list line) new
 
--- the last line of a stream, which has no newline
-abbrev pub last_line : List ℕ → Option Cut
-last_line [] = None
-last_line (byte ∷ bytes) = Some (cut (byte ∷ bytes))
+-- a call of `finish` gives the last line of the stream, and a new stream can begin
+pub record Finishes (old : Cut) (line : Option Cut) (new : Cut) : Type 0 where
+  pub last : (heard : List ℕ) (given : List Cut) → HasCut heard given old → given ++ option_to_list line ≡ cut_lines heard
+  pub begins : HasCut [] [] new
 
--- what taking from a piece keeps, whatever follows it: the line that is given, and then the lines of what is held and of
--- the rest, are the lines of what was held and of the piece
-pub record Kept (held piece : List ℕ) (taken : Taken) : Type 0 where
-  pub used : taken.0 ≤ length piece
-  pub some : 0 < length piece → 0 < taken.0
-  pub same : (more : List ℕ) → option_to_list taken.1 ++ cut_lines (taken.2 ++ (drop taken.0 piece ++ more)) ≡ cut_lines (held ++ (piece ++ more))
+-- ---- calls over all pieces of a stream
 
--- what was given of the bytes heard so far: the lines among them that have their newline, and the rest is held
-pub record Given (heard held : List ℕ) (given : List Cut) : Type 0 where
-  pub are_whole : given ≡ map cut (whole_lines heard)
-  pub is_rest : held ≡ start_of (unfinished heard)
+-- the calls of `take` over these pieces, of each of which they take until it is used up, give these lines
+pub data TakesAll : List (List ℕ) → Cut → List Cut → Cut → Type 0 where
+  none : {cutter : Cut} → TakesAll [] cutter [] cutter
+  used_up : {pieces : List (List ℕ)} {old new : Cut} {given : List Cut} → TakesAll pieces old given new → TakesAll ([] ∷ pieces) old given new
+  takes : {piece : List ℕ} {pieces : List (List ℕ)} {used : ℕ} {line : Option Cut} {old mid new : Cut} {given : List Cut}
+      → Takes old piece used line mid → TakesAll (drop used piece ∷ pieces) mid given new → TakesAll (piece ∷ pieces) old (option_to_list line ++ given) new

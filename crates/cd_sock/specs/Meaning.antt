@@ -14,7 +14,8 @@ use Rattle.cd_sock.specs.declared.command.Command.{Command}
 use Rattle.cd_sock.specs.declared.command.Command.TheVariants as commands
 use Rattle.cd_sock.specs.declared.fault.LineFault.{LineFault}
 use Rattle.cd_sock.specs.declared.fault.LineFault.TheVariants.{LineTooLong, NotUtf8, UnknownCommand, MissingArgument, UnknownType, BadOption, BadTime, WrongNumberOfValues, BadValue}
-use Rattle.cd_sock.specs.Arguments.{is_named, key, argument, leading_options, from_first_plain, interval_of, last_interval}
+use Rattle.cd_sock.specs.declared.lines.TheConstants.{LINE_LIMIT}
+use Rattle.cd_sock.specs.Arguments.{is_keyword, key, argument, leading_options, from_first_plain, interval_of, last_interval}
 use Rattle.cd_sock.specs.Values.{has_time, has_count, has_values, is_whole, Reading, reading}
 use Rattle.cd_sock.specs.Faults.{of_words, of_identifier, with_fault, need}
 use Rattle.std.specs.Option.{is_some}
@@ -31,7 +32,7 @@ pub data Request : Type 0 where
 
 -- the option that PUTVAL has
 abbrev pub is_interval : Word → Bool
-is_interval option = is_named (codes "interval") (key option)
+is_interval option = is_keyword (codes "interval") (key option)
 
 abbrev pub has_interval : Word → Bool
 has_interval option = is_some (interval_of (argument option))
@@ -79,31 +80,31 @@ list_val more = unless ((length more == 0, BadOption) ∷ []) ListVal
 unfoldable pub request_of_words : List DataSet → List Word → Result Request LineFault
 request_of_words types [] = Err UnknownCommand
 request_of_words types (name ∷ more) =
-    if is_named (codes "PUTVAL") name.text then put_val types more
-    else (if is_named (codes "GETVAL") name.text then get_val more
-    else (if is_named (codes "LISTVAL") name.text then list_val more else Err UnknownCommand))
+    if is_keyword (codes "PUTVAL") name.text then put_val types more
+    else (if is_keyword (codes "GETVAL") name.text then get_val more
+    else (if is_keyword (codes "LISTVAL") name.text then list_val more else Err UnknownCommand))
 
 -- ---- a line
 
-abbrev pub is_blank : ℕ → Bool
-is_blank byte = byte == 32 || byte == 9
+abbrev pub is_blank_byte : ℕ → Bool
+is_blank_byte byte = byte == 32 || byte == 9
 
 -- the line without a carriage return at its end
 abbrev pub without_return : List ℕ → List ℕ
 without_return line = if slice_index line (length line - 1) == 13 then take (length line - 1) line else line
 
--- at most 4096 bytes, all blanks but for a carriage return at the end
+-- at most LINE_LIMIT bytes, all blanks but for a carriage return at the end
 abbrev pub is_blank_line : List ℕ → Bool
-is_blank_line line = nat_le (length line) 4096 && list_all is_blank (without_return line)
+is_blank_line line = nat_le (length line) LINE_LIMIT && list_all is_blank_byte (without_return line)
 
 unfoldable pub request_of_text : List DataSet → List ℕ → Result Request LineFault
 request_of_text types text =
-    if list_all is_blank text then Ok Blank
+    if list_all is_blank_byte text then Ok Blank
     else (unless ((is_utf8 text, NotUtf8) ∷ []) text >>= λ text. with_fault of_words (words_of text) >>= λ words. request_of_words types words)
 
 -- what a line asks for, or its first fault; its length is counted with a carriage return at its end
 unfoldable pub request_of : List DataSet → List ℕ → Result Request LineFault
-request_of types line = unless ((nat_le (length line) 4096, LineTooLong) ∷ []) line >>= λ line. request_of_text types (without_return line)
+request_of types line = unless ((nat_le (length line) LINE_LIMIT, LineTooLong) ∷ []) line >>= λ line. request_of_text types (without_return line)
 
 -- ---- at a moment
 

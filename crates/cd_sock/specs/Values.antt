@@ -13,7 +13,7 @@ use Rattle.cd_value.specs.declared.data.DsType.{DsType}
 use Rattle.cd_value.specs.declared.data.DsType.TheVariants as kinds
 use Rattle.cd_value.specs.declared.data.Value.{Value}
 use Rattle.cd_value.specs.declared.data.Value.TheVariants.{Counter, Gauge, Derive, Absolute}
-use Rattle.cd_sock.specs.Arguments.{is_named}
+use Rattle.cd_sock.specs.Arguments.{is_keyword}
 
 -- ---- one value
 
@@ -37,7 +37,7 @@ change_of text =
 
 -- `U`, or `nan` in any case, is an unknown level
 abbrev pub is_unknown : List ℕ → Bool
-is_unknown text = bytes_eq text (codes "U") || is_named (codes "nan") text
+is_unknown text = bytes_eq text (codes "U") || is_keyword (codes "nan") text
 
 -- an unknown level, or a number in millionths
 abbrev pub level_of : List ℕ → Option (Option ℤ)

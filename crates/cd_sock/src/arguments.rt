@@ -1,16 +1,15 @@
 // The words of a command.
-ghost use Rattle.std.specs.Prelude.{◌≡◌, Result, Ok, Err, unwrap_or};
+ghost use Rattle.std.specs.Prelude.{◌≡◌, Result, Ok, Err};
 ghost use Rattle.std.specs.List.{list_all, position, before_first, after_first};
-ghost use Rattle.cd_reading.specs.First.{unless};
-ghost use Rattle.cd_sock.specs.Arguments.{argument, from_first_plain, has_key, interval_of, is_equals, is_named, is_plain, key, leading_options};
+ghost use Rattle.cd_sock.specs.Arguments.{argument, from_first_plain, has_key, interval_of, is_equals, is_keyword, is_plain, key, leading_options};
 ghost use Rattle.cd_sock.specs.Meaning.{has_interval, interval_in, is_interval};
 
 use crate::LineFault;
 use cd_text::{Word, read_time};
 
 /// Whether the text is the name, whatever the case of its letters.
-pub fn is_named(text: &str, name: &str) -> bool
-    ensures { result ≡ is_named name.now text.now }
+pub fn is_keyword(text: &str, name: &str) -> bool
+    ensures { result ≡ is_keyword name.now text.now }
 {
     text.eq_ignore_ascii_case(name)
 }
@@ -55,7 +54,7 @@ fn at_equals(text: &str) -> (&str, &str)
 fn is_interval(option: &Word) -> bool
     ensures { result ≡ is_interval option.now }
 {
-    is_named(at_equals(option.text.as_str()).0, "interval")
+    is_keyword(at_equals(option.text.as_str()).0, "interval")
 }
 
 /// The interval that an option gives, in units of 2^-30 s.

@@ -2,12 +2,12 @@
 ghost use Rattle.std.specs.Prelude.{◌≡◌, ℕ, IfErr, IfOk, IsOk, OnOk, Result};
 ghost use Rattle.std.specs.List.{list_all};
 ghost use Rattle.cd_reading.specs.Gives.{Gives, Refuses};
-ghost use Rattle.cd_sock.specs.Faults.{fault};
-ghost use Rattle.cd_sock.specs.Meaning.{ListsFit, at_moment, get_val, is_blank, is_blank_line, list_val, meaning, put_known, put_parts, put_val, request_of_text, request_of_words, without_return};
+ghost use Rattle.cd_sock.specs.Faults.{line_fault};
+ghost use Rattle.cd_sock.specs.Meaning.{ListsFit, at_moment, get_val, is_blank_byte, is_blank_line, list_val, meaning, put_known, put_parts, put_val, request_of_text, request_of_words, without_return};
 
-use crate::LineFault;
-use crate::arguments::{is_named, read_interval, split_options};
+use crate::arguments::{is_keyword, read_interval, split_options};
 use crate::lists::read_lists;
+use crate::{LINE_LIMIT, LineFault};
 use cd_text::{Word, words};
 use cd_types::TypesDb;
 use cd_value::{DataSource, Identifier, Lists};
@@ -38,18 +38,18 @@ fn without_return(line: &[u8]) -> &[u8]
     }
 }
 
-fn is_blank(text: &[u8]) -> bool
-    ensures { result ≡ list_all is_blank text.now }
+fn are_blank(text: &[u8]) -> bool
+    ensures { result ≡ list_all is_blank_byte text.now }
 {
     text.iter().all(|byte| *byte == b' ' || *byte == b'\t')
 }
 
-/// Whether a line without its newline is blank, so that it is read as `Command::Blank` at any moment: it has at most 4,096
+/// Whether a line without its newline is blank, so that it is read as `Command::Blank` at any moment: it has at most `LINE_LIMIT`
 /// bytes, all of them spaces and tabs but for a carriage return at the end.
 pub fn is_blank_line(line: &[u8]) -> bool
     ensures { result ≡ is_blank_line line.now }
 {
-    line.len() <= 4096 && is_blank(without_return(line))
+    line.len() <= LINE_LIMIT && are_blank(without_return(line))
 }
 
 /// PUTVAL with an identifier of a known type.
@@ -63,7 +63,7 @@ fn put_known(
     now: u64,
     interval: u64,
 ) -> Result<Command, LineFault>
-    ensures { Gives (λ command. command) fault result (at_moment now interval (put_known id sources.now options.now values.now)) }
+    ensures { Gives (λ command. command) line_fault result (at_moment now interval (put_known id sources.now options.now values.now)) }
 {
     let interval = read_interval(options, interval)?;
     let lists = read_lists(alloc, sources, values, id, now, interval)?;
@@ -81,7 +81,7 @@ fn put_parts(
     now: u64,
     interval: u64,
 ) -> Result<Command, LineFault>
-    ensures { Gives (λ command. command) fault result (at_moment now interval (put_parts types.now name.now options.now values.now)) }
+    ensures { Gives (λ command. command) line_fault result (at_moment now interval (put_parts types.now name.now options.now values.now)) }
 {
     if values.is_empty() {
         return Err(LineFault::MissingArgument);
@@ -109,7 +109,7 @@ fn put_val(
     now: u64,
     interval: u64,
 ) -> Result<Command, LineFault>
-    ensures { Gives (λ command. command) fault result (at_moment now interval (put_val types.now arguments.now)) }
+    ensures { Gives (λ command. command) line_fault result (at_moment now interval (put_val types.now arguments.now)) }
 {
     let Some((name, more)) = arguments.split_first() else {
         return Err(LineFault::MissingArgument);
@@ -128,7 +128,7 @@ fn put_val(
 
 #[tactic(auto, unfolding(crate::specs::Meaning::get_val))]
 fn get_val(alloc: Global, arguments: &[Word], now: u64, interval: u64) -> Result<Command, LineFault>
-    ensures { Gives (λ command. command) fault result (at_moment now interval (get_val arguments.now)) }
+    ensures { Gives (λ command. command) line_fault result (at_moment now interval (get_val arguments.now)) }
 {
     let Some((name, more)) = arguments.split_first() else {
         return Err(LineFault::MissingArgument);
@@ -160,17 +160,17 @@ fn read_words(
     now: u64,
     interval: u64,
 ) -> Result<Command, LineFault>
-    ensures { Gives (λ command. command) fault result (at_moment now interval (request_of_words types.now words.now)) }
+    ensures { Gives (λ command. command) line_fault result (at_moment now interval (request_of_words types.now words.now)) }
 {
     let Some((name, arguments)) = words.split_first() else {
         return Err(LineFault::UnknownCommand);
     };
     let name = name.text.as_str();
-    if is_named(name, "PUTVAL") {
+    if is_keyword(name, "PUTVAL") {
         put_val(alloc, types, arguments, now, interval)
-    } else if is_named(name, "GETVAL") {
+    } else if is_keyword(name, "GETVAL") {
         get_val(alloc, arguments, now, interval)
-    } else if is_named(name, "LISTVAL") {
+    } else if is_keyword(name, "LISTVAL") {
         list_val(arguments)
     } else {
         Err(LineFault::UnknownCommand)
@@ -186,9 +186,9 @@ fn read_text(
     now: u64,
     interval: u64,
 ) -> Result<Command, LineFault>
-    ensures { Gives (λ command. command) fault result (at_moment now interval (request_of_text types.now text.now)) }
+    ensures { Gives (λ command. command) line_fault result (at_moment now interval (request_of_text types.now text.now)) }
 {
-    if is_blank(text) {
+    if are_blank(text) {
         return Ok(Command::Blank);
     }
     let Ok(text) = str::from_utf8(text) else {
@@ -212,12 +212,12 @@ impl Command {
         now: u64,
         interval: u64,
     ) -> Result<Command, LineFault>
-        ensures meaning { Gives (λ command. command) fault result (meaning types.now now interval line.now) }
-        ensures same_fault { IfErr result (λ e. (later other : ℕ) → Refuses (fault e) (meaning types.now later other line.now)) }
+        ensures meaning { Gives (λ command. command) line_fault result (meaning types.now now interval line.now) }
+        ensures same_fault { IfErr result (λ e. (later other : ℕ) → Refuses (line_fault e) (meaning types.now later other line.now)) }
         ensures no_fault { OnOk result ((later other : ℕ) → IsOk (meaning types.now later other line.now)) }
         ensures fits { IfOk result (λ command. ListsFit types.now command) }
     {
-        if line.len() > 4096 {
+        if line.len() > LINE_LIMIT {
             return Err(LineFault::LineTooLong);
         }
         read_text(alloc, types, without_return(line), now, interval)

@@ -9,7 +9,7 @@ use std::alloc::{AllocError, AllocFailed};
 /// Why a line is refused, in the order in which the first is given; collectd-unixsock(5) says what a line may be.
 #[derive(Clone, Copy, Debug, PartialEq, Eq)]
 pub enum LineFault {
-    /// The line has more than 4,096 bytes, a carriage return at its end among them.
+    /// The line has more than `LINE_LIMIT` bytes, a carriage return at its end among them.
     LineTooLong,
     /// The line isn't UTF-8.
     NotUtf8,

@@ -12,7 +12,7 @@ mod values;
 
 pub use command::{Command, is_blank_line};
 pub use fault::LineFault;
-pub use lines::{Line, LineCutter};
+pub use lines::{LINE_LIMIT, Line, LineCutter, cut_in_any_pieces};
 pub use reply::{Reply, print_reply};
 
 #[cfg(test)]

@@ -1,30 +1,47 @@
-// The lines of a stream of bytes, whatever the pieces in which it comes.
-ghost use Rattle.std.specs.Prelude.{◌≡◌, ◌≤◌, ◌++◌, [], length, IfOk, OnOk, OnErr, take};
-ghost use Rattle.std.specs.List.{position};
+//! The lines of a stream of bytes, whatever the pieces in which it comes, as in collectd-unixsock(5).
+ghost use Rattle.std.specs.Prelude.{◌≡◌, ◌≤◌, ◌++◌, [], IfOk, IsOk, IsSome, OnOk, OnErr, List, Option, map, take, ℕ};
+ghost use Rattle.std.specs.List.{position, concat};
 ghost use Rattle.std.specs.Option.{option_map, option_to_list};
 ghost use Rattle.std.specs.Vec.{vec_len};
-ghost use Rattle.cd_sock.specs.Lines.{IsInLine, Kept, content, cut, cut_lines, is_newline, last_line, start_of, taken};
+ghost use Rattle.cd_sock.specs.Lines.{Cut, Finishes, HasCut, Takes, TakesAll, content, cut, cut_lines, if_not_empty, is_newline};
 
 use cd_value::Memory;
 use std::alloc::Global;
+use std::borrow::CowSlice;
+use std::marker::Model;
 use std::mem;
+
+/// The most bytes of a line without its newline, a carriage return at its end among them.
+pub const LINE_LIMIT: usize = 4_096;
+
+/// So many bytes of an unfinished line tell whether it is too long.
+const HELD_LIMIT: usize = LINE_LIMIT + 1;
 
 /// A line without its newline.
 #[derive(Drop)]
-pub enum Line {
-    /// At most 4,096 bytes.
-    Whole(Vec<u8>),
-    /// More than 4,096 bytes, which aren't kept.
+pub enum Line<'a> {
+    /// At most `LINE_LIMIT` bytes: those of the piece where all of them stand there, else a copy.
+    Whole(CowSlice<'a, u8>),
+    /// More than `LINE_LIMIT` bytes, which aren't kept.
     TooLong,
 }
 
-/// Cuts a stream of bytes into lines.
+/// Cuts a stream of bytes into lines. It keeps what came since the last newline, of which contracts see what a line
+/// shows: its bytes, or that it is too long.
 #[derive(Drop)]
 pub struct LineCutter {
-    /// What came since the last newline, of which no more than 4,097 bytes are kept.
-    pub held: Vec<u8>,
-    ghost few: { vec_len held ≤ 4097 },
-    ghost in_line: { IsInLine held.items },
+    /// What came since the last newline, but no more than `HELD_LIMIT` bytes.
+    held: Vec<u8>,
+}
+
+impl Model for LineCutter {
+    ghost use Rattle.cd_sock.specs.Lines.{Cut, IsHeld, cut};
+
+    ghost Value = { Cut };
+
+    ghost view = { λ cutter. cut cutter.held.items };
+
+    ghost invariant = { λ cutter. IsHeld cutter.held.items };
 }
 
 /// The place of the first newline.
@@ -45,89 +62,102 @@ fn front_of(bytes: &[u8], most: usize) -> &[u8]
     }
 }
 
-/// The bytes of both, in one allocation.
-fn joined(alloc: Global, start: &[u8], end: &[u8]) -> Result<Vec<u8>, Memory>
-    ensures { IfOk result (λ bytes. bytes.items ≡ start.now ++ end.now) }
+/// Adds bytes, as far as they tell whether the line is too long.
+fn hold(held: &mut Vec<u8>, bytes: &[u8]) -> Result<(), Memory>
+    requires { vec_len held.old ≤ HELD_LIMIT }
+    ensures ok { OnOk result (held.new.items ≡ take HELD_LIMIT (held.old.items ++ bytes.now)) }
+    ensures err { OnErr result (held.new.items ≡ held.old.items) }
 {
-    let mut bytes = Vec::with_capacity(alloc, start.len() + end.len())?;
-    bytes.extend_from_slice(start)?;
-    bytes.extend_from_slice(end)?;
-    Ok(bytes)
+    let few = front_of(bytes, HELD_LIMIT - held.len());
+    held.extend_from_slice(few)?;
+    Ok(())
 }
 
-/// The line of these bytes; one that is too long takes no memory.
-fn line_of(alloc: Global, start: &[u8], end: &[u8]) -> Result<Line, Memory>
-    requires { length start.now ≤ 4097 }
-    ensures { IfOk result (λ line. content line ≡ cut (start.now ++ end.now)) }
+/// Takes all bytes out.
+fn take_out(held: &mut Vec<u8>) -> Vec<u8>
+    ensures all { result.items ≡ held.old.items }
+    ensures none { held.new.items ≡ [] }
 {
-    if end.len() > 4096 || start.len() + end.len() > 4096 {
+    let empty = Vec::new(*held.allocator());
+    mem::replace(held, empty)
+}
+
+/// The line of the held bytes and of the last ones, which are borrowed where none are held.
+fn end_line<'a>(held: &mut Vec<u8>, last: &'a [u8]) -> Result<Line<'a>, Memory>
+    requires { vec_len held.old ≤ HELD_LIMIT }
+    ensures line { IfOk result (λ line. content line ≡ cut (held.old.items ++ last.now)) }
+    ensures none { OnOk result (held.new.items ≡ []) }
+    ensures err { OnErr result (held.new.items ≡ held.old.items) }
+    ensures borrows { held.old.items ≡ [] → IsOk result }
+{
+    if last.len() >= HELD_LIMIT - held.len() {
+        held.clear();
         return Ok(Line::TooLong);
     }
-    let bytes = joined(alloc, start, end)?;
-    Ok(Line::Whole(bytes))
+    if held.is_empty() {
+        return Ok(Line::Whole(CowSlice::Borrowed(last)));
+    }
+    held.extend_from_slice(last)?;
+    Ok(Line::Whole(CowSlice::Owned(take_out(held))))
 }
 
 /// The line of the last bytes of a stream.
-fn last_line(held: Vec<u8>) -> Option<Line>
-    ensures { option_map content result ≡ last_line held.items }
+fn last_line(held: &mut Vec<u8>) -> Option<Line<'static>>
+    requires { vec_len held.old ≤ HELD_LIMIT }
+    ensures line { option_to_list (option_map content result) ≡ map cut (if_not_empty held.old.items) }
+    ensures none { held.new.items ≡ [] }
 {
     if held.is_empty() {
-        None
-    } else if held.len() > 4096 {
-        Some(Line::TooLong)
-    } else {
-        Some(Line::Whole(held))
+        return None;
     }
+    if held.len() == HELD_LIMIT {
+        held.clear();
+        return Some(Line::TooLong);
+    }
+    Some(Line::Whole(CowSlice::Owned(take_out(held))))
 }
 
 impl LineCutter {
     /// A cutter before the first byte of a stream.
     pub fn new(alloc: Global) -> Self
-        ensures { result.held.items ≡ [] }
+        ensures { HasCut [] [] result }
     {
         LineCutter {
             held: Vec::new(alloc),
         }
     }
 
-    /// Adds bytes to the unfinished line.
-    fn hold(&mut self, bytes: &[u8]) -> Result<(), Memory>
-        requires { IsInLine bytes.now }
-        ensures ok { OnOk result (self.new.held.items ≡ start_of (self.old.held.items ++ bytes.now)) }
-        ensures err { OnErr result (self.new.held.items ≡ self.old.held.items) }
-    {
-        let few = front_of(bytes, 4097 - self.held.len());
-        self.held.extend_from_slice(few)?;
-        Ok(())
-    }
-
-    /// Uses a piece of the stream up to and with its first newline, and gives the line that this ends. The first
-    /// number says how many bytes were used: all where the piece has no newline.
-    pub fn take(&mut self, alloc: Global, piece: &[u8]) -> Result<(usize, Option<Line>), Memory>
-        ensures ok { IfOk result (λ r. (r.0, option_map content r.1, self.new.held.items) ≡ taken self.old.held.items piece.now) }
-        ensures kept { IfOk result (λ r. Kept self.old.held.items piece.now (r.0, option_map content r.1, self.new.held.items)) }
-        ensures err { OnErr result (self.new.held.items ≡ self.old.held.items) }
+    /// Uses a piece of the stream up to and with its first newline, and gives the line that this ends. The first number
+    /// says how many bytes were used: all where the piece has no newline, and then no line is given. A line that stands
+    /// whole in the piece takes no memory.
+    pub fn take<'a>(&mut self, piece: &'a [u8]) -> Result<(usize, Option<Line<'a>>), Memory>
+        ensures ok { IfOk result (λ r. Takes self.old piece.now r.0 (option_map content r.1) self.new) }
+        ensures err { OnErr result (self.new ≡ self.old) }
+        ensures in_piece { self.old ≡ Some [] → IsSome (position is_newline piece.now) → IsOk result }
     {
         match place_of_newline(piece) {
             Some(place) => {
-                let line = line_of(alloc, &self.held, &piece[..place])?;
-                self.held.clear();
+                let line = end_line(&mut self.held, &piece[..place])?;
                 Ok((place + 1, Some(line)))
             }
             None => {
-                self.hold(piece)?;
+                hold(&mut self.held, piece)?;
                 Ok((piece.len(), None))
             }
         }
     }
 
-    /// Gives the last line, where it has bytes but no newline. It takes no memory.
-    pub fn finish(&mut self, alloc: Global) -> Option<Line>
-        ensures line { option_map content result ≡ last_line self.old.held.items }
-        ensures lines { option_to_list (option_map content result) ≡ cut_lines self.old.held.items }
-        ensures held { self.new.held.items ≡ [] }
+    /// Gives the last line, where it has bytes but no newline, and is then before the first byte of a stream.
+    pub fn finish(&mut self) -> Option<Line<'static>>
+        ensures { Finishes self.old (option_map content result) self.new }
     {
-        let held = mem::replace(&mut self.held, Vec::new(alloc));
-        last_line(held)
+        last_line(&mut self.held)
     }
 }
+
+/// Whatever the pieces in which a stream comes, the lines that `take` and then `finish` give are those of the pieces joined.
+pub fn cut_in_any_pieces()
+    ensures { (pieces : List (List ℕ)) (first last end : Cut) (given : List Cut) (line : Option Cut)
+        → HasCut [] [] first → TakesAll pieces first given last → Finishes last line end
+        → given ++ option_to_list line ≡ cut_lines (concat pieces) }
+{}

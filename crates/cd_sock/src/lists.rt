@@ -1,8 +1,8 @@
 // The value lists of PUTVAL.
-ghost use Rattle.std.specs.Prelude.{◌≡◌, ◌==◌, IfOk, length, option_map};
+ghost use Rattle.std.specs.Prelude.{◌≡◌, IfOk, option_map};
 ghost use Rattle.std.specs.List.{list_all};
 ghost use Rattle.cd_reading.specs.Gives.{Gives};
-ghost use Rattle.cd_sock.specs.Faults.{fault};
+ghost use Rattle.cd_sock.specs.Faults.{line_fault};
 ghost use Rattle.cd_sock.specs.Meaning.{lists_of, lists_or_fault, value_fault};
 ghost use Rattle.cd_sock.specs.Values.{has_count, has_time};
 
@@ -93,7 +93,7 @@ pub fn read_lists(
     now: u64,
     interval: u64,
 ) -> Result<Lists, LineFault>
-    ensures { Gives (λ lists. lists) fault result (lists_or_fault sources.now id now interval words.now) }
+    ensures { Gives (λ lists. lists) line_fault result (lists_or_fault sources.now id now interval words.now) }
 {
     match try_lists(alloc, sources, words, id, now, interval)? {
         Some(lists) => Ok(lists),

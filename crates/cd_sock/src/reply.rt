@@ -1,8 +1,8 @@
 // Replies to lines.
-ghost use Rattle.std.specs.Prelude.{◌≡◌, ◌++◌, ◌∷◌, [], ◌<◌, ◌^◌, IfOk, OnOk, length, string_bytes, option_copied};
+ghost use Rattle.std.specs.Prelude.{◌≡◌, ◌++◌, ◌<◌, ◌^◌, IfOk, OnOk, length, string_bytes, option_copied};
 ghost use Rattle.std.specs.List.{flat_map};
 ghost use Rattle.cd_sock.specs.Framing.{HasPlainNames, IsFramed};
-ghost use Rattle.cd_sock.specs.Replies.{fault_text, line, rate_line, rate_lines, rate_or_nan, reply_text, row_line, values_found};
+ghost use Rattle.cd_sock.specs.Replies.{fault_text, flushed_line, with_newline, rate_line, rate_lines, rate_or_nan, reply_text, row_line, values_found};
 
 use crate::LineFault;
 use cd_value::{Memory, Names, Rate, Rates, Rows, Text};
@@ -19,8 +19,12 @@ pub enum Reply {
     Listed(Rows),
     /// The line was refused.
     Fault(LineFault),
+    /// So many plug-ins flushed, and so many failed to.
+    Flushed(u64, u64),
     /// Nothing is cached under the name.
     NoSuchValue,
+    /// The daemon is stopping, and takes no more lists.
+    Stopping,
 }
 
 /// The first line of a reply, which says how many values follow.
@@ -96,9 +100,17 @@ fn print_rows(alloc: Global, rows: &[(u64, Text)]) -> Result<Text, Memory>
     Ok(Text::from_string(text))
 }
 
+/// The reply with the numbers of flushes.
+fn print_flushed(alloc: Global, successful: u64, errors: u64) -> Result<Text, Memory>
+    ensures { IfOk result (λ text. text ≡ flushed_line successful errors) }
+{
+    let text = format!(in alloc; "0 Done: {successful} successful, {errors} errors\n")?;
+    Ok(Text::from_string(text))
+}
+
 /// The text of a fault with its newline.
 fn fault_line(fault: LineFault) -> &'static str
-    ensures { result.now ≡ line (fault_text fault) }
+    ensures { result.now ≡ with_newline (fault_text fault) }
 {
     match fault {
         LineFault::LineTooLong => "-1 Line too long\n",
@@ -128,6 +140,8 @@ pub fn print_reply(alloc: Global, reply: &Reply) -> Result<Text, Memory>
         Reply::Got(names, rates) => print_rates(alloc, names.as_slice(), rates.as_slice()),
         Reply::Listed(rows) => print_rows(alloc, rows.as_slice()),
         Reply::Fault(fault) => Text::of(alloc, fault_line(*fault)),
+        Reply::Flushed(successful, errors) => print_flushed(alloc, *successful, *errors),
         Reply::NoSuchValue => Text::of(alloc, "-1 No such value\n"),
+        Reply::Stopping => Text::of(alloc, "-1 Stopping\n"),
     }
 }

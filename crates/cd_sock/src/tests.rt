@@ -204,7 +204,7 @@ fn counts_bytes_before_a_carriage_return(rt: HostRuntime) -> Result<(), Fail> {
 /// Adds a line and a bar.
 fn push_line(text: &mut String, line: &Line) -> Result<(), Memory> {
     match line {
-        Line::Whole(bytes) => match str::from_utf8(bytes) {
+        Line::Whole(bytes) => match str::from_utf8(bytes.as_slice()) {
             Ok(line) => text.push_str(line)?,
             Err(_) => text.push_str("?")?,
         },
@@ -215,19 +215,14 @@ fn push_line(text: &mut String, line: &Line) -> Result<(), Memory> {
 }
 
 /// Feeds a piece of a stream.
-fn feed(
-    alloc: Global,
-    cutter: &mut LineCutter,
-    text: &mut String,
-    piece: &[u8],
-) -> Result<(), Memory> {
+fn feed(cutter: &mut LineCutter, text: &mut String, piece: &[u8]) -> Result<(), Memory> {
     let mut left = piece;
-    for _ in 0..piece.len() {
-        let (used, line) = cutter.take(alloc, left)?;
+    while !left.is_empty() {
+        let (used, line) = cutter.take(left)?;
         if let Some(line) = line {
             push_line(text, &line)?;
         }
-        left = left.split_at(used.min(left.len())).1;
+        left = &left[used..];
     }
     Ok(())
 }
@@ -236,9 +231,9 @@ fn feed(
 fn cut(alloc: Global, first: &str, second: &str) -> Result<String, Memory> {
     let mut text = String::new(alloc);
     let mut cutter = LineCutter::new(alloc);
-    feed(alloc, &mut cutter, &mut text, first.as_bytes())?;
-    feed(alloc, &mut cutter, &mut text, second.as_bytes())?;
-    if let Some(line) = cutter.finish(alloc) {
+    feed(&mut cutter, &mut text, first.as_bytes())?;
+    feed(&mut cutter, &mut text, second.as_bytes())?;
+    if let Some(line) = cutter.finish() {
         push_line(&mut text, &line)?;
     }
     Ok(text)

@@ -2,9 +2,9 @@
 ghost use Rattle.std.specs.Prelude.{◌≡◌, ◌==◌, ◌&&◌, ◌∷◌, IfOk, Option, Some, None, is_some, count_by, map, slice_index, option_copied, if◌then◌else◌};
 ghost use Rattle.std.specs.List.{before_first, slice_split};
 ghost use Rattle.cd_sock.specs.Meaning.{list_at};
-ghost use Rattle.cd_sock.specs.Values.{change_of, count_of, has_count, has_time, is_colon, is_now, is_unknown, is_whole, level_of, reading, texts_in, time_at, value_of, values_in};
+ghost use Rattle.cd_sock.specs.Values.{change_of, count_of, has_count, has_time, is_colon, is_unknown, is_whole, level_of, reading, texts_in, time_at, value_of, values_in};
 
-use crate::arguments::is_named;
+use crate::arguments::is_keyword;
 use cd_text::{Word, read_millionths, read_time};
 use cd_value::{DataSource, DsType, Identifier, Memory, Sequence, Value, ValueList, Values};
 use std::alloc::Global;
@@ -36,7 +36,7 @@ fn read_change(text: &str) -> Option<i64>
 fn is_unknown(text: &str) -> bool
     ensures { result ≡ is_unknown text.now }
 {
-    text == "U" || is_named(text, "nan")
+    text == "U" || is_keyword(text, "nan")
 }
 
 /// A level in millionths, or an unknown one.

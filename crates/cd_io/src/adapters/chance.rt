@@ -1,4 +1,4 @@
-// The real dice.
+//! The real dice.
 ghost use Rattle.std.specs.Prelude.{None};
 
 use crate::Dice;

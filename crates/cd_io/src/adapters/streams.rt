@@ -1,5 +1,6 @@
-// A reader and a writer as a link.
-ghost use Rattle.std.specs.Prelude.{◌≡◌, ◌≤◌, None, IfOk, length};
+//! A reader and a writer as a link.
+ghost use Rattle.std.specs.Prelude.{◌≡◌, ◌≤◌, IfOk, length};
+ghost use Rattle.cd_io.specs.Link.{counts_alone};
 
 use crate::{Failed, Heard, Link};
 use std::io::{self, ErrorKind, Read, Write};
@@ -23,8 +24,7 @@ pub struct Streams<R, W> {
 impl<R: Read + Send + Drop, W: Write + Send + Drop> Streams<R, W> {
     /// The link that hears from `reader` and says to `writer`.
     pub fn new(reader: R, writer: W) -> Self
-        ensures faults { ⟦<Streams<R, W> as Link>⟧.link_faults result ≡ 0 }
-        ensures quiets { ⟦<Streams<R, W> as Link>⟧.link_quiets result ≡ 0 }
+        ensures { ⟦<Streams<R, W> as Link>⟧.link_tells result ≡ counts_alone 0 0 }
     {
         Streams {
             reader,
@@ -36,15 +36,7 @@ impl<R: Read + Send + Drop, W: Write + Send + Drop> Streams<R, W> {
 }
 
 impl<R: Read + Send + Drop, W: Write + Send + Drop> Link for Streams<R, W> {
-    ghost link_faults = { λ l. l.faults };
-
-    ghost link_quiets = { λ l. l.quiets };
-
-    ghost link_given = { λ l. None };
-
-    ghost link_left = { λ l. None };
-
-    ghost link_said = { λ l. None };
+    ghost link_tells = { λ l. counts_alone l.faults l.quiets };
 
     fn hear(&mut self, buf: &mut [u8]) -> Result<Heard, Failed> {
         match self.reader.read(buf) {
@@ -58,9 +50,9 @@ impl<R: Read + Send + Drop, W: Write + Send + Drop> Link for Streams<R, W> {
         }
     }
 
-    fn say(&mut self, bytes: &[u8]) -> Result<usize, Failed> {
-        match write_some(&mut self.writer, bytes) {
-            Ok(taken) if taken > 0 || bytes.is_empty() => Ok(taken),
+    fn say(&mut self, text: &[u8]) -> Result<usize, Failed> {
+        match write_some(&mut self.writer, text) {
+            Ok(taken) if taken > 0 || text.is_empty() => Ok(taken),
             _ => Err(Failed::counted(&mut self.faults)),
         }
     }
@@ -74,12 +66,12 @@ fn is_quiet(error: &io::Error) -> bool {
     )
 }
 
-/// Writes the first bytes of a piece, flushes them, and answers how many.
-fn write_some<W: Write>(writer: &mut W, bytes: &[u8]) -> io::Result<usize>
-    ensures { IfOk result (λ n. n ≤ length bytes.now) }
+/// Writes the first bytes of a text, flushes them, and answers how many.
+fn write_some<W: Write>(writer: &mut W, text: &[u8]) -> io::Result<usize>
+    ensures { IfOk result (λ n. n ≤ length text.now) }
 {
     for _ in 0..TRIES {
-        match writer.write(bytes) {
+        match writer.write(text) {
             Ok(taken) => {
                 writer.flush()?;
                 return Ok(taken);

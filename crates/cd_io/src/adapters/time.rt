@@ -1,4 +1,4 @@
-// The real clock.
+//! The real clock.
 ghost use Rattle.std.specs.Prelude.{None};
 
 use crate::Clock;

@@ -1,4 +1,4 @@
-// The real world.
+//! The real world.
 ghost use Rattle.std.specs.Prelude.{None};
 
 use crate::{Clock, RealClock, RealDice, World};

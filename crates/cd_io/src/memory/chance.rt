@@ -1,4 +1,4 @@
-// Dice in memory.
+//! Dice in memory.
 ghost use Rattle.std.specs.Prelude.{◌≡◌, Some};
 
 use crate::Dice;

@@ -1,8 +1,6 @@
-// A link in memory.
-ghost use Rattle.std.specs.Prelude.{◌≡◌, ◌≤◌, ◌<◌, [], ℕ, length, take, max, None, Some, Ok, IfSome, IfOk, IsTrue, is_err, MatchOption};
-ghost use Rattle.cd_io.specs.Causes.{Rose, HasCause};
-ghost use Rattle.cd_io.specs.Heard.{heard_count, said_count};
-ghost use Rattle.cd_io.specs.Told.{Stays, Grows, Loses};
+//! A link in memory.
+ghost use Rattle.std.specs.Prelude.{◌≡◌, ◌≤◌, ◌<◌, [], ℕ, length, None, Some, Ok, IfOk, is_err, MatchOption};
+ghost use Rattle.cd_io.specs.Link.{Hears, Says, heard_count, is_quiet};
 
 use crate::{Failed, Heard, Link};
 use std::alloc::Global;
@@ -55,15 +53,11 @@ pub struct MemLink {
 }
 
 impl MemLink {
-    ghost use Rattle.cd_io.specs.MemLink.{plan_of, hears_of, says_of};
+    ghost use Rattle.cd_io.specs.MemLink.{told_first, plan_of, hears_of, says_of};
 
     /// A link on which the peer has sent `input`.
     pub fn new(alloc: Global, input: Vec<u8>, plan: LinkPlan) -> Self
-        ensures faults { ⟦<MemLink as Link>⟧.link_faults result ≡ 0 }
-        ensures quiets { ⟦<MemLink as Link>⟧.link_quiets result ≡ 0 }
-        ensures given { ⟦<MemLink as Link>⟧.link_given result ≡ Some [] }
-        ensures left { ⟦<MemLink as Link>⟧.link_left result ≡ Some input.items }
-        ensures said { ⟦<MemLink as Link>⟧.link_said result ≡ Some [] }
+        ensures tells { ⟦<MemLink as Link>⟧.link_tells result ≡ told_first input.items }
         ensures plan { plan_of result ≡ plan }
         ensures hears { hears_of result ≡ 0 }
         ensures says { says_of result ≡ 0 }
@@ -82,8 +76,8 @@ impl MemLink {
 
     /// What was said, where it is told.
     pub fn output(&self) -> Option<&[u8]>
-        ensures { MatchOption result (⟦<MemLink as Link>⟧.link_said self.now ≡ None)
-            (λ bytes. ⟦<MemLink as Link>⟧.link_said self.now ≡ Some bytes.now) }
+        ensures { MatchOption result ((⟦<MemLink as Link>⟧.link_tells self.now).said ≡ None)
+            (λ bytes. (⟦<MemLink as Link>⟧.link_tells self.now).said ≡ Some bytes.now) }
     {
         match &self.output {
             Some(bytes) => Some(bytes.as_slice()),
@@ -92,40 +86,25 @@ impl MemLink {
     }
 }
 
-// The clauses of the trait, and that a call fails or is quiet just by the plan.
+// The clauses of the trait, and that just the calls of the plan fail or are quiet.
 impl Link for MemLink {
-    ghost use Rattle.cd_io.specs.MemLink.{given_of, left_of, said_of, faults_of, quiets_of, plan_of, hears_of, says_of, next_number, is_among};
+    ghost use Rattle.cd_io.specs.MemLink.{tells_of, plan_of, hears_of, says_of, next_number, fails_to_hear, fails_to_say, is_planned_quiet, planned_count};
 
-    ghost link_faults = { faults_of };
-
-    ghost link_quiets = { quiets_of };
-
-    ghost link_given = { given_of };
-
-    ghost link_left = { left_of };
-
-    ghost link_said = { said_of };
+    ghost link_tells = { tells_of };
 
     fn hear(&mut self, buf: &mut [u8]) -> Result<Heard, Failed>
         requires { 0 < length buf.old }
         ensures got { heard_count result ≤ length buf.new }
         ensures some { (n : ℕ) → result ≡ Ok (Heard.Got n) → 0 < n }
-        ensures given { Grows (take (heard_count result) buf.new) (given_of self.old) (given_of self.new) }
-        ensures left { Loses (take (heard_count result) buf.new) (left_of self.old) (left_of self.new) }
-        ensures said { Stays (said_of self.old) (said_of self.new) }
-        ensures end { result ≡ Ok Heard.End → IfSome (left_of self.old) (λ bytes. bytes ≡ []) }
-        ensures quiet { result ≡ Ok Heard.Quiet → Rose (quiets_of self.old) (quiets_of self.new) }
-        ensures quiets { quiets_of self.old ≤ quiets_of self.new }
-        ensures cause { HasCause (faults_of self.old) (faults_of self.new) result }
+        ensures hears { Hears result buf.new (tells_of self.old) (tells_of self.new) }
 
-        // Which calls don't go through.
-        ensures fails { is_err result ≡ is_among (hears_of self.old) (plan_of self.old).failing_hears.items }
-        ensures brings_nothing { result ≡ Ok Heard.Quiet →
-            IsTrue (is_among (hears_of self.old) (plan_of self.old).quiet_hears.items) }
-        ensures limit { heard_count result ≤ max (plan_of self.old).piece_limit 1 }
+        // The plan decides how the call goes.
+        ensures fails { is_err result ≡ fails_to_hear (plan_of self.old) (hears_of self.old) }
+        ensures is_quiet { is_quiet result ≡ is_planned_quiet (plan_of self.old) (hears_of self.old) }
+        ensures count { heard_count result ≡ planned_count self.old (length buf.old) }
         ensures plan { plan_of self.new ≡ plan_of self.old }
-        ensures hears { hears_of self.new ≡ next_number (hears_of self.old) }
-        ensures says { says_of self.new ≡ says_of self.old }
+        ensures hears_next { hears_of self.new ≡ next_number (hears_of self.old) }
+        ensures says_next { says_of self.new ≡ says_of self.old }
     {
         let number = self.hears;
         self.hears = number.saturating_add(1);
@@ -147,21 +126,17 @@ impl Link for MemLink {
         Ok(Heard::Got(count))
     }
 
-    fn say(&mut self, bytes: &[u8]) -> Result<usize, Failed>
-        ensures bound { IfOk result (λ n. n ≤ length bytes.now) }
-        ensures some { IfOk result (λ n. 0 < length bytes.now → 0 < n) }
-        ensures given { Stays (given_of self.old) (given_of self.new) }
-        ensures left { Stays (left_of self.old) (left_of self.new) }
-        ensures said { Grows (take (said_count result) bytes.now) (said_of self.old) (said_of self.new) }
-        ensures quiets { quiets_of self.old ≤ quiets_of self.new }
-        ensures cause { HasCause (faults_of self.old) (faults_of self.new) result }
+    fn say(&mut self, text: &[u8]) -> Result<usize, Failed>
+        ensures bound { IfOk result (λ n. n ≤ length text.now) }
+        ensures some { IfOk result (λ n. 0 < length text.now → 0 < n) }
+        ensures says { Says result text.now (tells_of self.old) (tells_of self.new) }
 
-        // Which calls don't go through, and that the others take all.
-        ensures fails { is_err result ≡ is_among (says_of self.old) (plan_of self.old).failing_says.items }
-        ensures whole { IfOk result (λ n. n ≡ length bytes.now) }
+        // The plan decides whether the call fails, and the others take the whole text.
+        ensures fails { is_err result ≡ fails_to_say (plan_of self.old) (says_of self.old) }
+        ensures whole { IfOk result (λ n. n ≡ length text.now) }
         ensures plan { plan_of self.new ≡ plan_of self.old }
-        ensures hears { hears_of self.new ≡ hears_of self.old }
-        ensures says { says_of self.new ≡ next_number (says_of self.old) }
+        ensures hears_next { hears_of self.new ≡ hears_of self.old }
+        ensures says_next { says_of self.new ≡ next_number (says_of self.old) }
     {
         let number = self.says;
         self.says = number.saturating_add(1);
@@ -169,10 +144,10 @@ impl Link for MemLink {
             return Err(Failed::counted(&mut self.faults));
         }
         if let Some(output) = &mut self.output {
-            if output.extend_from_slice(bytes).is_err() {
+            if output.extend_from_slice(text).is_err() {
                 self.output = None;
             }
         }
-        Ok(bytes.len())
+        Ok(text.len())
     }
 }

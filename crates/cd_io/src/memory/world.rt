@@ -1,4 +1,4 @@
-// A world in memory.
+//! A world in memory.
 ghost use Rattle.std.specs.Prelude.{◌≡◌, Some};
 
 use crate::{MemClock, MemDice, World};

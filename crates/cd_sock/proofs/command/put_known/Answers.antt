@@ -3,7 +3,7 @@ use Rattle.std.proofs.lemmas.Result.{err_from_is_err_and}
 use Rattle.cd_value.specs.declared.data.ValueList.{ValueList}
 use Rattle.cd_sock.specs.declared.command.Command.TheVariants.{PutVal}
 use Rattle.cd_sock.specs.declared.fault.LineFault.{LineFault}
-use Rattle.cd_sock.specs.Faults.{fault}
+use Rattle.cd_sock.specs.Faults.{line_fault}
 use Rattle.cd_sock.specs.Meaning.{at_moment, lists_or_fault, put_known}
 use Rattle.cd_reading.specs.First.{◌>>=◌}
 use Rattle.cd_sock.proofs.Meanings.{put_lists, refuses_on}
@@ -13,7 +13,7 @@ pub returns-in_err-lists : goal.returns-in_err-lists
 returns-in_err-lists c =
     let p = err_from_is_err_and c.from_residual-in_err-lists.result c.from_residual-in_err-lists.ensures.1 in
     rw (p.1, p.2)
-    (refuses_on (fault c.in_err-lists.field-0.0) (lists_or_fault c.args.sources.now c.args.id c.args.now c.in_ok-interval.interval c.args.values.now) (λ lists. Ok (PutVal lists))
+    (refuses_on (line_fault c.in_err-lists.field-0.0) (lists_or_fault c.args.sources.now c.args.id c.args.now c.in_ok-interval.interval c.args.values.now) (λ lists. Ok (PutVal lists))
     (at_moment c.args.now c.args.interval (put_known c.args.id c.args.sources.now c.args.options.now c.args.values.now)) c.in_err-lists.ensures
     (put_lists c.args.id c.args.sources.now c.args.options.now c.args.values.now c.args.now c.args.interval c.in_ok-interval.interval (sym c.in_ok-interval.ensures)))
 

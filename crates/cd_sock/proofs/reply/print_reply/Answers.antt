@@ -4,8 +4,8 @@ use Rattle.std.specs.List.{flat_map, list_all}
 use Rattle.std.proofs.lemmas.Result.{IfOk-weaker}
 use Rattle.cd_sock.specs.declared.reply.Reply.{Reply}
 use Rattle.cd_sock.specs.Framing.{HasPlainNames, IsFramed, is_one_line}
-use Rattle.cd_sock.specs.Replies.{line, rate_lines, row_line, values_found}
-use Rattle.cd_sock.proofs.Frames.{fault_framed, rates_framed, refusal_framed, rows_framed, success_framed}
+use Rattle.cd_sock.specs.Replies.{flushed_line, with_newline, rate_lines, row_line, values_found}
+use Rattle.cd_sock.proofs.Frames.{fault_framed, rates_framed, refusal_framed, rows_framed, flushed_framed, done_framed}
 use Rattle.cd_sock.proofs.reply.print_reply.Goals as goal
 
 -- a text that is framed
@@ -14,7 +14,7 @@ at {text} {other} same framed = subst (λ (t : List ℕ). IsFramed t) (sym same)
 
 pub returns-in-Success-clause-framed : goal.returns-in-Success-clause-framed
 returns-in-Success-clause-framed c =
-    IfOk-weaker c.of.result (λ (text : List ℕ). text ≡ line (codes "0 Success")) (λ (text : List ℕ). HasPlainNames c.args.reply.now → IsFramed text) (λ text same plain. at same success_framed) c.of.ensures
+    IfOk-weaker c.of.result (λ (text : List ℕ). text ≡ with_newline (codes "0 Success")) (λ (text : List ℕ). HasPlainNames c.args.reply.now → IsFramed text) (λ text same plain. at same (done_framed (codes "Success") refl)) c.of.ensures
 
 pub returns-in-Got-clause-framed : goal.returns-in-Got-clause-framed
 returns-in-Got-clause-framed c =
@@ -37,5 +37,15 @@ returns-in-Fault-clause-framed c =
 
 pub returns-in-NoSuchValue-clause-framed : goal.returns-in-NoSuchValue-clause-framed
 returns-in-NoSuchValue-clause-framed c =
-    IfOk-weaker c.of-in-NoSuchValue.result (λ (text : List ℕ). text ≡ line (codes "-1 No such value")) (λ (text : List ℕ). HasPlainNames c.args.reply.now → IsFramed text)
+    IfOk-weaker c.of-in-NoSuchValue.result (λ (text : List ℕ). text ≡ with_newline (codes "-1 No such value")) (λ (text : List ℕ). HasPlainNames c.args.reply.now → IsFramed text)
     (λ text same plain. at same (refusal_framed (codes "No such value") refl)) c.of-in-NoSuchValue.ensures
+
+pub returns-in-Flushed-clause-framed : goal.returns-in-Flushed-clause-framed
+returns-in-Flushed-clause-framed c =
+    IfOk-weaker c.print_flushed.result (λ (text : List ℕ). text ≡ flushed_line c.in-Flushed.successful c.in-Flushed.errors) (λ (text : List ℕ). HasPlainNames c.args.reply.now → IsFramed text)
+    (λ text same plain. at same (flushed_framed c.in-Flushed.successful c.in-Flushed.errors)) c.print_flushed.ensures
+
+pub returns-in-Stopping-clause-framed : goal.returns-in-Stopping-clause-framed
+returns-in-Stopping-clause-framed c =
+    IfOk-weaker c.of-in-Stopping.result (λ (text : List ℕ). text ≡ with_newline (codes "-1 Stopping")) (λ (text : List ℕ). HasPlainNames c.args.reply.now → IsFramed text)
+    (λ text same plain. at same (refusal_framed (codes "Stopping") refl)) c.of-in-Stopping.ensures
