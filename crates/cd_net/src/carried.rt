@@ -48,53 +48,23 @@ impl<'a> Carried<'a> {
         }
     }
 
-    /// The fields behind a part.
-    pub fn after(self, kind: u16, payload: &'a [u8]) -> Self
+    /// Takes the field of a part, if it has one.
+    pub fn take(&mut self, kind: u16, payload: &'a [u8])
         requires { IsOfKind kind payload.now }
-        ensures { seen result ≡ with_field kind payload.now (seen self.entry) }
+        ensures { seen self.new ≡ with_field kind payload.now (seen self.old) }
     {
         match kind {
-            HOST => Carried {
-                host: field(payload),
-                ..self
-            },
-            PLUGIN => Carried {
-                plugin: field(payload),
-                ..self
-            },
-            PLUGIN_INSTANCE => Carried {
-                plugin_instance: field(payload),
-                ..self
-            },
-            TYPE => Carried {
-                type_name: field(payload),
-                ..self
-            },
-            TYPE_INSTANCE => Carried {
-                type_instance: field(payload),
-                ..self
-            },
-            TIME => Carried {
-                time: units_of_seconds(number(payload)),
-                ..self
-            },
-            TIME_HIGH_RESOLUTION => Carried {
-                time: Some(number(payload)),
-                ..self
-            },
-            INTERVAL => Carried {
-                interval: units_of_seconds(number(payload)),
-                ..self
-            },
-            INTERVAL_HIGH_RESOLUTION => Carried {
-                interval: Some(number(payload)),
-                ..self
-            },
-            SEVERITY => Carried {
-                severity: number(payload),
-                ..self
-            },
-            _ => self,
+            HOST => self.host = field(payload),
+            PLUGIN => self.plugin = field(payload),
+            PLUGIN_INSTANCE => self.plugin_instance = field(payload),
+            TYPE => self.type_name = field(payload),
+            TYPE_INSTANCE => self.type_instance = field(payload),
+            TIME => self.time = units_of_seconds(number(payload)),
+            TIME_HIGH_RESOLUTION => self.time = Some(number(payload)),
+            INTERVAL => self.interval = units_of_seconds(number(payload)),
+            INTERVAL_HIGH_RESOLUTION => self.interval = Some(number(payload)),
+            SEVERITY => self.severity = number(payload),
+            _ => {}
         }
     }
 
