@@ -11,9 +11,9 @@ use Rattle.cd_value.specs.Identifier.{Fields, has_bad_field, has_long_field, has
 use Rattle.cd_value.proofs.Cleaned.{is_field-clean_field, slash-clean_field}
 use Rattle.cd_net.specs.declared.item.ItemRefusal.{ItemRefusal}
 use Rattle.cd_net.specs.declared.item.ItemRefusal.TheVariants.{NotText, BadField}
-use Rattle.cd_net.specs.Carried.{is_replaced}
+use Rattle.cd_net.specs.Clean.{clean, is_replaced}
 use Rattle.cd_net.specs.InForce.{InForce}
-use Rattle.cd_net.specs.Items.{clean, clean_texts}
+use Rattle.cd_net.specs.Items.{clean_texts}
 use Rattle.cd_net.specs.Refusals.{are_texts, are_times, first_refusal, list_tests, texts_of}
 use Rattle.cd_net.proofs.Texts.{clean-kept}
 

@@ -6,9 +6,9 @@ use Rattle.std.specs.Str.{IsUtf8, is_utf8}
 use Rattle.std.proofs.lemmas.Bool.{or_parts, and_parts, not-true, false_from_ne_true, eq-eqb, ltb-false}
 use Rattle.std.proofs.lemmas.List.{take_all}
 use Rattle.std.proofs.lemmas.Str.{is_utf8-from_IsUtf8, IsUtf8-from_is_utf8}
+use Rattle.cd_value.specs.Identifier.{is_control, is_slash}
 use Rattle.cd_net.specs.Payload.{is_zero, text_of}
-use Rattle.cd_net.specs.Carried.{is_replaced}
-use Rattle.cd_net.specs.Items.{clean}
+use Rattle.cd_net.specs.Clean.{clean, is_replaced}
 
 -- ---- a text in a payload
 
@@ -56,3 +56,18 @@ clean-kept slash [] h = refl
 clean-kept slash (byte ∷ text) h =
     let both = or_parts (is_replaced slash byte) (list_any (is_replaced slash) text) h in
     rw (both.0, clean-kept slash text both.1) refl
+
+-- where no slash is replaced, fewer bytes are
+fewer : (slash : Bool) (byte : ℕ) → is_replaced true byte ≡ false → is_replaced slash byte ≡ false
+fewer true byte h = h
+fewer false byte h = let parts = or_parts (is_control byte) (is_slash byte) h in rw parts.0 refl
+
+none_fewer : (slash : Bool) (text : List ℕ) → list_any (is_replaced true) text ≡ false → list_any (is_replaced slash) text ≡ false
+none_fewer slash [] h = refl
+none_fewer slash (byte ∷ text) h =
+    let both = or_parts (is_replaced true byte) (list_any (is_replaced true) text) h in
+    rw (fewer slash byte both.0, none_fewer slash text both.1) refl
+
+-- a text without a control character and without a slash stays in each field
+pub clean-stays : (text : List ℕ) → list_all (λ byte. not (is_replaced true byte)) text ≡ true → (slash : Bool) → clean slash text ≡ text
+clean-stays text h slash = clean-kept slash text (none_fewer slash text (none_replaced true text h))

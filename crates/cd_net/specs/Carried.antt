@@ -1,20 +1,23 @@
 -- The fields in force as they are carried forward.
-use Rattle.std.specs.Prelude.{ℕ, ◌==◌, ◌||◌, ◌&&◌, Bool, List, Option, if◌then◌else◌}
-use Rattle.cd_value.specs.Identifier.{is_control, is_slash}
-use Rattle.std.specs.Option.{option_copied}
+use Rattle.std.specs.Prelude.{ℕ, ◌==◌, List, Option, option_map, if◌then◌else◌}
+use Rattle.cd_net.specs.declared.field.Field.{Field}
 use Rattle.cd_net.specs.declared.carried.Carried.{Carried}
 use Rattle.cd_net.specs.declared.kinds.TheConstants.{HOST, PLUGIN, PLUGIN_INSTANCE, TYPE, TYPE_INSTANCE, TIME, INTERVAL, SEVERITY}
 use Rattle.cd_net.specs.Payload.{text_of, number_of}
 use Rattle.cd_net.specs.InForce.{InForce, is_time, is_interval, units_of}
 
+-- the text of a field, if it is one
+abbrev pub text_in : Option Field → Option (List ℕ)
+text_in field = option_map (λ f. f.text.now) field
+
 -- what carried fields say
 abbrev pub seen : Carried → InForce
 seen fields = record {
-  host = option_copied fields.host;
-  plugin = option_copied fields.plugin;
-  plugin_instance = option_copied fields.plugin_instance;
-  type_name = option_copied fields.type_name;
-  type_instance = option_copied fields.type_instance;
+  host = text_in fields.host;
+  plugin = text_in fields.plugin;
+  plugin_instance = text_in fields.plugin_instance;
+  type_name = text_in fields.type_name;
+  type_instance = text_in fields.type_instance;
   time = fields.time;
   interval = fields.interval;
   severity = fields.severity;
@@ -36,7 +39,3 @@ with_field kind payload fields = record {
   interval = if is_interval kind then units_of INTERVAL kind payload else fields.interval;
   severity = if kind == SEVERITY then number_of payload else fields.severity;
 }
-
--- a byte that stands for another when a text is cleaned
-abbrev pub is_replaced : Bool → ℕ → Bool
-is_replaced slash byte = is_control byte || (slash && is_slash byte)

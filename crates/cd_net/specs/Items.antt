@@ -6,7 +6,7 @@ use Rattle.cd_value.specs.declared.data.ValueList.{ValueList}
 use Rattle.cd_value.specs.declared.data.Notification.{Notification}
 use Rattle.cd_value.specs.declared.data.Severity.{Severity}
 use Rattle.cd_value.specs.declared.data.Severity.TheVariants.{Failure, Warning, Okay}
-use Rattle.cd_value.specs.Clean.{clean_byte, longest_front}
+use Rattle.cd_value.specs.Clean.{longest_front}
 use Rattle.cd_value.specs.Identifier.{Fields}
 use Rattle.cd_net.specs.declared.item.Item.{Item}
 use Rattle.cd_net.specs.declared.item.Item.TheVariants as items
@@ -15,15 +15,13 @@ use Rattle.cd_net.specs.declared.item.Decoded.{Decoded}
 use Rattle.cd_net.specs.declared.kinds.TheConstants.{VALUES, MESSAGE, FAILURE_CODE, WARNING_CODE}
 use Rattle.cd_value.specs.declared.numbers.TheConstants.{MESSAGE_LIMIT}
 use Rattle.cd_net.specs.declared.packet.Part.{Part}
+use Rattle.cd_net.specs.Clean.{clean}
 use Rattle.cd_net.specs.Packet.{payload, AreParts}
 use Rattle.cd_net.specs.Payload.{text_of, values_of}
 use Rattle.cd_net.specs.InForce.{InForce, in_force}
 use Rattle.cd_net.specs.Refusals.{first_refusal, list_tests, note_tests, texts_of}
 
 -- control characters become `_`, and in the host and the plugin part slashes too
-abbrev pub clean : Bool → List ℕ → List ℕ
-clean slash text = map (clean_byte slash) text
-
 abbrev pub clean_texts : Fields → Fields
 clean_texts texts = record {
   host = clean true texts.host;

@@ -1,5 +1,6 @@
 pub mod Packet
 pub mod Payload
+pub mod Clean
 pub mod InForce
 pub mod Refusals
 pub mod Items

@@ -1,14 +1,15 @@
 //! The fields that parts carry forward to the values and messages behind them.
-ghost use Rattle.std.specs.Option.{option_copied};
 ghost use Rattle.std.specs.Prelude.{◌≡◌, ℕ, List, [], length, nat_lt, unwrap_or};
 ghost use Rattle.std.specs.List.{list_all};
 ghost use Rattle.cd_value.specs.Identifier.{has_bad_field, has_long_field, is_long, is_type_byte};
 ghost use Rattle.cd_net.specs.Items.{interval_or};
 ghost use Rattle.cd_net.specs.Refusals.{are_texts, are_times, has_time, texts_of};
-ghost use Rattle.cd_net.specs.Carried.{seen, with_field};
+ghost use Rattle.cd_net.specs.Carried.{seen, text_in, with_field};
 ghost use Rattle.cd_net.specs.InForce.{in_force};
 ghost use Rattle.cd_net.specs.Packet.{IsOfKind};
+ghost use Rattle.cd_net.specs.Payload.{text_of};
 
+use crate::field::Field;
 use crate::kinds::{
     HOST, INTERVAL, INTERVAL_HIGH_RESOLUTION, PLUGIN, PLUGIN_INSTANCE, SEVERITY, TIME,
     TIME_HIGH_RESOLUTION, TYPE, TYPE_INSTANCE,
@@ -19,11 +20,11 @@ use cd_value::FIELD_LIMIT;
 /// The fields in force. A text that isn't one, and a time of 2^34 seconds or more, is `None`.
 #[derive(Clone, Copy)]
 pub(crate) struct Carried<'a> {
-    pub host: Option<&'a str>,
-    pub plugin: Option<&'a str>,
-    pub plugin_instance: Option<&'a str>,
-    pub type_name: Option<&'a str>,
-    pub type_instance: Option<&'a str>,
+    pub host: Option<Field<'a>>,
+    pub plugin: Option<Field<'a>>,
+    pub plugin_instance: Option<Field<'a>>,
+    pub type_name: Option<Field<'a>>,
+    pub type_instance: Option<Field<'a>>,
     pub time: Option<u64>,
     pub interval: Option<u64>,
     pub severity: u64,
@@ -34,65 +35,36 @@ impl<'a> Carried<'a> {
     pub fn new() -> Self
         ensures { (bytes : List ℕ) → seen result ≡ in_force bytes [] }
     {
+        let empty = Some(Field::new(""));
         Carried {
-            host: Some(""),
-            plugin: Some(""),
-            plugin_instance: Some(""),
-            type_name: Some(""),
-            type_instance: Some(""),
+            host: empty,
+            plugin: empty,
+            plugin_instance: empty,
+            type_name: empty,
+            type_instance: empty,
             time: Some(0),
             interval: Some(0),
             severity: 0,
         }
     }
 
-    /// The fields behind a part.
-    pub fn after(self, kind: u16, payload: &'a [u8]) -> Self
+    /// Takes the field of a part, if it has one.
+    pub fn take(&mut self, kind: u16, payload: &'a [u8])
         requires { IsOfKind kind payload.now }
-        ensures { seen result ≡ with_field kind payload.now (seen self.entry) }
+        ensures { seen self.new ≡ with_field kind payload.now (seen self.old) }
     {
         match kind {
-            HOST => Carried {
-                host: text(payload),
-                ..self
-            },
-            PLUGIN => Carried {
-                plugin: text(payload),
-                ..self
-            },
-            PLUGIN_INSTANCE => Carried {
-                plugin_instance: text(payload),
-                ..self
-            },
-            TYPE => Carried {
-                type_name: text(payload),
-                ..self
-            },
-            TYPE_INSTANCE => Carried {
-                type_instance: text(payload),
-                ..self
-            },
-            TIME => Carried {
-                time: units_of_seconds(number(payload)),
-                ..self
-            },
-            TIME_HIGH_RESOLUTION => Carried {
-                time: Some(number(payload)),
-                ..self
-            },
-            INTERVAL => Carried {
-                interval: units_of_seconds(number(payload)),
-                ..self
-            },
-            INTERVAL_HIGH_RESOLUTION => Carried {
-                interval: Some(number(payload)),
-                ..self
-            },
-            SEVERITY => Carried {
-                severity: number(payload),
-                ..self
-            },
-            _ => self,
+            HOST => self.host = field(payload),
+            PLUGIN => self.plugin = field(payload),
+            PLUGIN_INSTANCE => self.plugin_instance = field(payload),
+            TYPE => self.type_name = field(payload),
+            TYPE_INSTANCE => self.type_instance = field(payload),
+            TIME => self.time = units_of_seconds(number(payload)),
+            TIME_HIGH_RESOLUTION => self.time = Some(number(payload)),
+            INTERVAL => self.interval = units_of_seconds(number(payload)),
+            INTERVAL_HIGH_RESOLUTION => self.interval = Some(number(payload)),
+            SEVERITY => self.severity = number(payload),
+            _ => {}
         }
     }
 
@@ -111,10 +83,10 @@ impl<'a> Carried<'a> {
     pub fn has_bad_text(&self) -> bool
         ensures { result ≡ has_bad_field (texts_of (seen self.now)) }
     {
-        self.host.unwrap_or("").is_empty()
-            || self.plugin.unwrap_or("").is_empty()
-            || self.type_name.unwrap_or("").is_empty()
-            || !is_type(self.type_name.unwrap_or(""))
+        text_or_empty(self.host).is_empty()
+            || text_or_empty(self.plugin).is_empty()
+            || text_or_empty(self.type_name).is_empty()
+            || !is_type(text_or_empty(self.type_name))
     }
 
     /// Whether a text is too long for a field.
@@ -153,10 +125,40 @@ impl<'a> Carried<'a> {
     }
 }
 
-fn is_long(text: Option<&str>) -> bool
-    ensures { result ≡ is_long (unwrap_or (option_copied text.entry) []) }
+/// The text of a payload as a field.
+fn field(payload: &[u8]) -> Option<Field<'_>>
+    ensures { text_in result ≡ text_of payload.now }
 {
-    text.unwrap_or("").len() > FIELD_LIMIT
+    match text(payload) {
+        Some(text) => Some(Field::new(text)),
+        None => None,
+    }
+}
+
+/// The field, or one with an empty text where there is none.
+pub(crate) fn field_or_empty(field: Option<Field<'_>>) -> Field<'_>
+    ensures { result.text.now ≡ unwrap_or (text_in field.entry) [] }
+{
+    match field {
+        Some(field) => field,
+        None => Field::new(""),
+    }
+}
+
+/// The text of the field, or an empty one where there is none.
+pub(crate) fn text_or_empty(field: Option<Field<'_>>) -> &str
+    ensures { result.now ≡ unwrap_or (text_in field.entry) [] }
+{
+    match field {
+        Some(field) => field.text,
+        None => "",
+    }
+}
+
+fn is_long(field: Option<Field<'_>>) -> bool
+    ensures { result ≡ is_long (unwrap_or (text_in field.entry) []) }
+{
+    text_or_empty(field).len() > FIELD_LIMIT
 }
 
 fn is_type(text: &str) -> bool

@@ -80,7 +80,7 @@ pub fn items(alloc: Global, bytes: &[u8], types: &TypesDb, interval: u64) -> Res
         let payload = payload_of(bytes, &part);
         let given_here = given(alloc, &fields, part.kind, payload, types, interval)?;
         keep(&mut items, &mut refused, part.place, given_here)?;
-        fields = fields.after(part.kind, payload);
+        fields.take(part.kind, payload);
         place += part.length as usize;
     }
 }

@@ -9,9 +9,9 @@
 #![tactic(auto)]
 
 mod carried;
-mod clean;
 mod cut;
 mod decode;
+mod field;
 mod item;
 mod kinds;
 mod list;

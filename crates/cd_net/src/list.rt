@@ -10,8 +10,7 @@ ghost use Rattle.cd_net.specs.Packet.{IsOfKind};
 ghost use Rattle.cd_net.specs.Payload.{code_of, codes_of, count_of, value_of, values_of};
 ghost use Rattle.cd_net.specs.Refusals.{are_texts, are_times, first_refusal, has_time, is_code_of, is_gauge_code, list_tests, sources_of, texts_of};
 
-use crate::carried::Carried;
-use crate::clean::clean_copy;
+use crate::carried::{Carried, field_or_empty, text_or_empty};
 use crate::decode::Outcome;
 use crate::kinds::{ABSOLUTE_CODE, COUNTER_CODE, DERIVE_CODE, GAUGE_CODE, VALUES};
 use crate::payload::{codes_and_numbers, number};
@@ -94,7 +93,7 @@ fn list_refusal(fields: &Carried<'_>, payload: &[u8], types: &TypesDb) -> Option
     if has_gauge(codes) {
         return Some(ItemRefusal::Gauge);
     }
-    let Some(set) = types.get(fields.type_name.unwrap_or("")) else {
+    let Some(set) = types.get(text_or_empty(fields.type_name)) else {
         return Some(ItemRefusal::UnknownType);
     };
     if codes.len() != set.sources.len() {
@@ -115,11 +114,11 @@ fn identifier(alloc: Global, fields: &Carried<'_>) -> Result<Identifier, Memory>
     requires short { has_long_field (texts_of (seen fields.now)) ≡ false }
     ensures { IfOk result (λ id. id ≡ clean_texts (texts_of (seen fields.now))) }
 {
-    let host = clean_copy(alloc, fields.host.unwrap_or(""), true)?;
-    let plugin = clean_copy(alloc, fields.plugin.unwrap_or(""), true)?;
-    let plugin_instance = clean_copy(alloc, fields.plugin_instance.unwrap_or(""), true)?;
-    let type_name = clean_copy(alloc, fields.type_name.unwrap_or(""), false)?;
-    let type_instance = clean_copy(alloc, fields.type_instance.unwrap_or(""), false)?;
+    let host = field_or_empty(fields.host).clean_copy(alloc, true)?;
+    let plugin = field_or_empty(fields.plugin).clean_copy(alloc, true)?;
+    let plugin_instance = field_or_empty(fields.plugin_instance).clean_copy(alloc, true)?;
+    let type_name = field_or_empty(fields.type_name).clean_copy(alloc, false)?;
+    let type_instance = field_or_empty(fields.type_instance).clean_copy(alloc, false)?;
     Ok(Identifier {
         host,
         plugin,

@@ -6,9 +6,9 @@ ghost use Rattle.cd_net.specs.Items.{message_of, note_of, note_outcome, severity
 ghost use Rattle.cd_net.specs.Payload.{text_of};
 ghost use Rattle.cd_net.specs.Refusals.{first_refusal, is_severity, note_tests};
 
-use crate::carried::Carried;
-use crate::clean::clean_copy;
+use crate::carried::{Carried, field_or_empty};
 use crate::decode::Outcome;
+use crate::field::Field;
 use crate::kinds::{FAILURE_CODE, OKAY_CODE, WARNING_CODE};
 use crate::payload::text;
 use crate::{Item, ItemRefusal};
@@ -54,12 +54,12 @@ fn note_refusal(fields: &Carried<'_>, message: Option<&str>) -> Option<ItemRefus
 fn note_of(alloc: Global, fields: &Carried<'_>, message: &str) -> Result<Notification, Memory>
     ensures { IfOk result (λ note. note ≡ note_of (seen fields.now) message.now) }
 {
-    let host = clean_copy(alloc, fields.host.unwrap_or(""), true)?;
-    let plugin = clean_copy(alloc, fields.plugin.unwrap_or(""), true)?;
-    let plugin_instance = clean_copy(alloc, fields.plugin_instance.unwrap_or(""), true)?;
-    let type_name = clean_copy(alloc, fields.type_name.unwrap_or(""), false)?;
-    let type_instance = clean_copy(alloc, fields.type_instance.unwrap_or(""), false)?;
-    let message = clean_copy(alloc, longest_front(message, MESSAGE_LIMIT), false)?;
+    let host = field_or_empty(fields.host).clean_copy(alloc, true)?;
+    let plugin = field_or_empty(fields.plugin).clean_copy(alloc, true)?;
+    let plugin_instance = field_or_empty(fields.plugin_instance).clean_copy(alloc, true)?;
+    let type_name = field_or_empty(fields.type_name).clean_copy(alloc, false)?;
+    let type_instance = field_or_empty(fields.type_instance).clean_copy(alloc, false)?;
+    let message = Field::new(longest_front(message, MESSAGE_LIMIT)).clean_copy(alloc, false)?;
     Ok(Notification {
         severity: severity_of(fields.severity),
         time: fields.time.unwrap_or(0),

@@ -23,11 +23,11 @@ loop-part-preserved c =
     record {
       within = omega arith;
       reads =
-          reads_more c.args.types.now c.args.interval bytes c.loop-part.place fields (seen c.after-fields.result)
+          reads_more c.args.types.now c.args.interval bytes c.loop-part.place fields (seen c.take.new.self)
           c.loop-part.items c.keep.new.items c.loop-part.refused c.keep.new.refused part c.in_ok-given_here.given_here
           c.loop-part.invariant.reads c.in-Ok.ensures.goes_on c.in-Ok.ensures.part
           (c.in_ok-given_here.ensures ∙ ap (λ (p : List ℕ). given c.args.types.now c.args.interval fields part.kind p) payload_is)
-          (c.after-fields.ensures ∙ ap (λ (p : List ℕ). with_field part.kind p fields) payload_is)
+          (c.take.ensures ∙ ap (λ (p : List ℕ). with_field part.kind p fields) payload_is)
           c.in_ok-keep.ensures.items c.in_ok-keep.ensures.refused;
     }
 
