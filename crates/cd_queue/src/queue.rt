@@ -1,4 +1,4 @@
-// The write queue and its calls.
+//! The write queue and its calls.
 ghost use Rattle.std.specs.Prelude.{◌≡◌, ◌≤◌, ◌<◌, ◌+◌, [], drop, length, slice_get, option_copied, IfErr, IfOk, IsOk, OnErr, OnOk};
 ghost use Rattle.cd_queue.specs.Drops.{AreInOrder, after_offer, fate_of, is_dropped};
 

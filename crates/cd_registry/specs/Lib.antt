@@ -1,3 +1,8 @@
 pub mod Told
 pub mod Telling
 pub mod Answering
+pub mod Rows
+pub mod Faults
+pub mod Slots
+pub mod Registry
+pub mod Flags

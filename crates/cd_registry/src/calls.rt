@@ -1,4 +1,4 @@
-// Calls of plug-ins and their answers.
+//! Calls of plug-ins and their answers.
 ghost use Rattle.std.specs.Prelude.{◌≡◌, IfOk};
 
 use cd_value::{Memory, Notification, Text, TryCopy, ValueList};

@@ -1,4 +1,4 @@
-// The set of the kinds of callbacks.
+//! The set of the kinds of callbacks.
 ghost use Rattle.std.specs.Prelude.{⊤, ◌≡◌, ◌==◌, [], ◌∷◌, codes, bit_and};
 
 use bitflags::{Flag, Flags};

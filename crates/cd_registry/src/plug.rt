@@ -1,4 +1,4 @@
-// Plug-ins that are called.
+//! Plug-ins that are called.
 ghost use Rattle.std.specs.Prelude.{◌≡◌};
 
 use crate::{Answer, AnsweredCall, Call};

@@ -1,4 +1,4 @@
-// Plug-ins that are read.
+//! Plug-ins that are read.
 ghost use Rattle.std.specs.Prelude.{◌≡◌, ◌≤◌};
 
 use cd_value::{Lists, Sequence};

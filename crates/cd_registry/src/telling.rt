@@ -1,4 +1,4 @@
-// A plug-in that keeps what it got.
+//! A plug-in that keeps what it got.
 ghost use Rattle.std.specs.Prelude.{◌≡◌, ◌≢◌, ◌⊎◌, ◌++◌, ◌+◌, [], ◌∷◌, Some, None, OnOk, drop, option_copied, slice_get};
 ghost use Rattle.cd_registry.specs.Told.{calls_after, told_after};
 ghost use Rattle.cd_registry.specs.Telling.{answer_at};

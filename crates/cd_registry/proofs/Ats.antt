@@ -1,0 +1,38 @@
+-- Facts of the row of a number, for callers.
+use Rattle.std.proofs.Common.{◌≡◌, ◌<◌, ℕ, suc, zero, List, [], ◌∷◌, Bool, true, length, get_or, Some, refl, ap, ◌∙◌, arith}
+use Rattle.std.specs.List.{position}
+use Rattle.std.proofs.lemmas.List.Quantifiers.{position-Some}
+use Rattle.cd_registry.specs.Rows.{Row, At, with_row}
+
+-- a fact of a row leads to another
+pub at_map : (rows : List Row) (i : ℕ) (P Q : Row → Type 0) → ((row : Row) → P row → Q row) → At rows i P → At rows i Q
+at_map [] i P Q f at = at
+at_map (row ∷ rows) zero P Q f at = f row at
+at_map (row ∷ rows) (suc i) P Q f at = at_map rows i P Q f at
+
+-- a row stands at each number below their count
+pub at_any : (rows : List Row) (i : ℕ) (P : Row → Type 0) → i < length rows → ((row : Row) → row ≡ get_or rows i row → P row) → At rows i P
+at_any [] i P within f = absurd (omega arith)
+at_any (row ∷ rows) zero P within f = f row refl
+at_any (row ∷ rows) (suc i) P within f = at_any rows i P (omega arith) f
+
+-- the first row that passes a test passes it
+pub at_first : (p : Row → Bool) (rows : List Row) (i : ℕ) → position p rows ≡ Some i → At rows i (λ row. p row ≡ true)
+at_first p [] i e = cc
+at_first p (row ∷ rows) i e =
+    at_any (row ∷ rows) i (λ row. p row ≡ true) (position-Some p (row ∷ rows) i row e).0
+    (λ found is. ap p is ∙ (position-Some p (row ∷ rows) i found e).1)
+
+-- the row that was changed
+pub at_changed : (rows : List Row) (i : ℕ) (step : Row → Row) (P Q : Row → Type 0) → ((row : Row) → P row → Q (step row)) → At rows i P → At (with_row i step rows) i Q
+at_changed [] i step P Q f at = at
+at_changed (row ∷ rows) zero step P Q f at = f row at
+at_changed (row ∷ rows) (suc i) step P Q f at = at_changed rows i step P Q f at
+
+-- a fact that a change keeps, of any row
+pub at_kept : (rows : List Row) (n i : ℕ) (step : Row → Row) (P : Row → Type 0) → ((row : Row) → P row → P (step row)) → At rows i P → At (with_row n step rows) i P
+at_kept [] n i step P f at = at
+at_kept (row ∷ rows) zero zero step P f at = f row at
+at_kept (row ∷ rows) zero (suc i) step P f at = at
+at_kept (row ∷ rows) (suc n) zero step P f at = at
+at_kept (row ∷ rows) (suc n) (suc i) step P f at = at_kept rows n i step P f at
