@@ -8,5 +8,4 @@ ghost use Rattle.cd_daemon.specs.Settled.{IsSettled};
 /// A daemon that stopped and has no list left stays so, whatever comes after: it takes no list any more.
 pub fn settled_daemon_stays_settled()
     ensures { (K : Opening) (P H : History) → IsLegal K H → Continues P H → IsSettled P → IsSettled H }
-{
-}
+{}

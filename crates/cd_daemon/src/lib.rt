@@ -9,9 +9,8 @@
 
 mod laws;
 
-pub use laws::settled_daemon_stays_settled;
-
 use cd_value::{DataSet, Sequence};
+pub use laws::settled_daemon_stays_settled;
 
 /// The interval of value lists whose source names none, where no configuration says otherwise, in units of 2^-30 s: 10
 /// seconds, as in collectd.conf(5), Interval.

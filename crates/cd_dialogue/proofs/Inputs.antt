@@ -13,7 +13,8 @@ use Rattle.cd_dialogue.specs.declared.ends.DialogueFault.TheVariants.{Memory}
 use Rattle.cd_dialogue.specs.declared.ends.InputEnd.{InputEnd}
 use Rattle.cd_dialogue.specs.declared.ends.Step.{Step}
 use Rattle.cd_dialogue.specs.declared.ends.Step.TheVariants.{Ended, Heard, Quiet, TooLong}
-use Rattle.cd_dialogue.specs.Dialogues.{Broke, BrokeOff, Closed, Exceeded, LeftOff, ServedAll, ServesInput, Steps, Waited, WentOn, ended_in, lines_within}
+use Rattle.cd_dialogue.specs.Dialogues.{Broke, BrokeOff, Closed, Exceeded, LeftOff, ServedAll, ServesInput, Steps, Waited, WentOn, ended_in}
+use Rattle.cd_dialogue.specs.Inputs.{lines_within}
 use Rattle.cd_dialogue.specs.Served.{Served}
 use Rattle.cd_dialogue.proofs.Breaking.{begins_none, begins_then, none_served, off_then}
 use Rattle.cd_dialogue.proofs.Going.{went_then}

@@ -9,16 +9,12 @@ use Rattle.cd_dialogue.specs.declared.ends.InputEnd.{InputEnd}
 use Rattle.cd_dialogue.specs.declared.ends.InputEnd.TheVariants as ends
 use Rattle.cd_dialogue.specs.declared.ends.Step.{Step}
 use Rattle.cd_dialogue.specs.declared.ends.Step.TheVariants as steps
+use Rattle.cd_dialogue.specs.Inputs.{AllServed, TooMuch, lines_within}
 use Rattle.cd_dialogue.specs.Served.{Served}
 
 -- the lines that end with a newline in the bytes heard earlier and in these
 abbrev pub ended_in : List ℕ → List ℕ → List Cut
 ended_in bytes earlier = map cut (whole_lines (earlier ++ bytes))
-
--- the lines that are served of an input of which no more than so many bytes are taken: where more came, just those that
--- end within the limit
-abbrev pub lines_within : ℕ → List ℕ → List Cut
-lines_within limit heard = if nat_lt limit (length heard) then map cut (whole_lines (take limit heard)) else cut_lines heard
 
 -- after lines that were given before, these are the first of all lines that there are
 abbrev pub AreFirst : (List ℕ → List Cut) → List Cut → Cut → Type 0
@@ -61,22 +57,11 @@ module _ {S : Type 0} (serves : Cut → List ℕ → S → S → Type 0) where
   -- ---- the service of a whole input, of which no more than so many bytes are taken
 
   module _ (old new : S) (before after : LinkTells) (limit : ℕ) where
-    -- all lines were served, and their replies said; nothing is left, or nothing came for a while
-    pub record ServedAll : Type 0 where
-      pub heard : List ℕ
-      pub text : List ℕ
-      pub short : length heard ≤ limit
-      pub served : Served serves (cut_lines heard) text old new
-      pub spoke : Spoke heard text before after
-      pub ended : HasEnded after ⊎ Rose before.quiets after.quiets
+    abbrev pub ServedAll : Type 0
+    ServedAll = AllServed (λ lines text. Served serves lines text old new) limit before after
 
-    -- more came than is taken; the lines that end in what is taken were served, and their replies said
-    pub record Exceeded : Type 0 where
-      pub heard : List ℕ
-      pub text : List ℕ
-      pub long : limit < length heard
-      pub served : Served serves (map cut (whole_lines (take limit heard))) text old new
-      pub spoke : Spoke heard text before after
+    abbrev pub Exceeded : Type 0
+    Exceeded = TooMuch (λ lines text. Served serves lines text old new) limit before after
 
   -- ---- where a dialogue broke off
 

@@ -1,2 +1,3 @@
 pub mod Dialogues
 pub mod Served
+pub mod Inputs

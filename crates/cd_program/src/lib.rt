@@ -6,8 +6,8 @@
 //! - Programs with stored runs are `collectd_main`, `collectd_line` and `collectd_usage`; each only calls `start`.
 #![tactic(auto)]
 
+mod machine;
 mod outcome;
-mod start;
 
+pub use machine::start;
 pub use outcome::{Outcome, serve_words};
-pub use start::start;

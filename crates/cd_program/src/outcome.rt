@@ -34,9 +34,9 @@ impl Outcome {
             Err(_) => None,
         };
         Outcome {
-            end,
             status: status(&end),
             message,
+            end,
         }
     }
 }

@@ -1,10 +1,12 @@
-// Runs over memory with one plug-in, whose answers and lines are worked by hand.
+//! Runs over memory with one plug-in, whose answers and lines are worked by hand.
 ghost use Rattle.std.specs.Prelude.{◌≤◌, IfOk, length};
 
 use cd_history::Given;
 use cd_io::{LinkPlan, MemLink, MemWorld};
 use cd_registry::{Answer, Call, Kinds, Plug, Probe, Telling};
-use cd_serve::{End, RanOf, Shelved, ShelvedOf, ShelvedProbeOf, run, run_of, status, text_of};
+use cd_serve::{
+    End, INPUT_LIMIT, RanOf, Shelved, ShelvedOf, ShelvedProbeOf, run, run_of, status, text_of,
+};
 use cd_value::{Memory, Text, Value};
 use std::alloc::Global;
 use std::marker::Send;
@@ -12,9 +14,6 @@ use std::test::Fail;
 
 /// A second, in units of 2^-30 s.
 const SECOND: u64 = 1 << 30;
-
-/// The most bytes that a run takes.
-const LIMIT: usize = 67_108_864;
 
 /// The program's words.
 fn words(alloc: Global, word: &str) -> Result<Vec<String>, Memory> {
@@ -62,6 +61,18 @@ fn ran(
     Ok((ran, output.to_vec(alloc)?))
 }
 
+/// Whether the moments, words and answers that were given are these, in order; each is told as a number.
+fn gave(ran: &RanOf<Telling, ()>, wanted: &[(&str, u64)]) -> bool {
+    let given = ran.given.as_slice();
+    given.len() == wanted.len()
+        && given.iter().zip(wanted).all(|(one, want)| match one {
+            Given::Now(now) => want.0 == "now" && *now == want.1,
+            Given::Word(word) => want.0 == "word" && *word == want.1,
+            Given::Answered(answer) => want.0 == "done" && *answer == Answer::Done,
+            Given::Read(_) => false,
+        })
+}
+
 /// How many calls the plug-in that came back has got.
 fn calls_of(ran: &RanOf<Telling, ()>) -> Option<usize> {
     let plug = ran.plugs.first()?;
@@ -91,12 +102,12 @@ fn one_line_reaches_the_plug_in(rt: HostRuntime) -> Result<(), Fail> {
         Some((1000 * SECOND, 10 * SECOND, Value::Derive(5)))
     );
     let given = [
-        Given::Now(2_000_000_000 * SECOND),
-        Given::Word(5),
-        Given::Now(2_000_000_001 * SECOND),
-        Given::Answered(Answer::Done),
+        ("now", 2_000_000_000 * SECOND),
+        ("word", 5),
+        ("now", 2_000_000_001 * SECOND),
+        ("done", 0),
     ];
-    assert_eq!(rt; ran.given.as_slice(), given.as_slice());
+    assert!(rt; gave(&ran, given.as_slice()));
     Ok(())
 }
 
@@ -151,25 +162,57 @@ fn lines_are_answered(rt: HostRuntime) -> Result<(), Fail> {
     Ok(())
 }
 
+/// The times, in seconds, and the values of the writes that came back.
+fn writes(ran: &RanOf<Telling, ()>, wanted: &[(u64, i64)]) -> bool {
+    let Some(plug) = ran.plugs.first() else {
+        return false;
+    };
+    let Some(calls) = plug.object.calls() else {
+        return false;
+    };
+    calls.len() == wanted.len()
+        && calls.iter().zip(wanted).all(|(one, want)| match &one.call {
+            Call::Write(list) => {
+                list.time == want.0 << 30
+                    && list.values.as_slice().first() == Some(&Value::Derive(want.1))
+            }
+            _ => false,
+        })
+}
+
 #[test]
 fn older_list_is_still_written(rt: HostRuntime) -> Result<(), Fail> {
     let alloc = rt.alloc();
-    let lines = b"PUTVAL h/p/derive 100:1 100:5 90:3\n";
-    let (ran, _) = ran(alloc, "--lines", lines.as_slice(), LinkPlan::new(alloc))?;
-    assert_eq!(rt; calls_of(&ran), Some(3));
+    let equal = b"PUTVAL h/p/derive 100:1 100:5\n";
+    let (twice, _) = ran(alloc, "--lines", equal.as_slice(), LinkPlan::new(alloc))?;
+    assert!(rt; writes(&twice, [(100, 1), (100, 5)].as_slice()));
+    let older = b"PUTVAL h/p/derive 100:1 100:5 90:3\n";
+    let (thrice, _) = ran(alloc, "--lines", older.as_slice(), LinkPlan::new(alloc))?;
+    assert!(rt; writes(&thrice, [(100, 1), (100, 5), (90, 3)].as_slice()));
+    Ok(())
+}
+
+#[test]
+fn a_time_is_cut_to_its_unit(rt: HostRuntime) -> Result<(), Fail> {
+    let alloc = rt.alloc();
+    let line = b"PUTVAL h/p/gauge 17179869183.999999999:1\n";
+    let (ran, _) = ran(alloc, "--lines", line.as_slice(), LinkPlan::new(alloc))?;
+    let (time, _, value) = first_write(&ran).ok_or("no write")?;
+    assert_eq!(rt; time, 18_446_744_073_709_551_614);
+    assert_eq!(rt; value, Value::Gauge(Some(1_000_000)));
     Ok(())
 }
 
 #[test]
 fn links_fail(rt: HostRuntime) -> Result<(), Fail> {
     let alloc = rt.alloc();
-    let lines = b"PUTVAL h/p/derive 1000:1\nPUTVAL h/p/derive 1010:2\n";
+    let lines = b"PUTVAL h/p/derive interval=10 1000:5\nPUTVAL h/p/derive interval=10 1010:5\n";
     let mut says = LinkPlan::new(alloc);
     says.failing_says.push(1)?;
     let (second, output) = ran(alloc, "--lines", lines.as_slice(), says)?;
     assert_eq!(rt; second.end, End::LinkFault);
     assert_eq!(rt; output.as_slice(), b"0 Success\n".as_slice());
-    assert_eq!(rt; calls_of(&second), Some(2));
+    assert!(rt; writes(&second, [(1000, 5), (1010, 5)].as_slice()));
     let mut hears = LinkPlan::new(alloc);
     hears.failing_hears.push(0)?;
     let (first, output) = ran(alloc, "--lines", lines.as_slice(), hears)?;
@@ -208,7 +251,7 @@ fn long_lines_are_refused(rt: HostRuntime) -> Result<(), Fail> {
 fn too_much_input_ends_the_run(rt: HostRuntime) -> Result<(), Fail> {
     let alloc = rt.alloc();
     let mut bytes = b"LISTVAL\n".to_vec(alloc)?;
-    bytes.resize(LIMIT, b'\n')?;
+    bytes.resize(INPUT_LIMIT, b'\n')?;
     let (full, _) = ran(alloc, "--lines", bytes.as_slice(), LinkPlan::new(alloc))?;
     assert_eq!(rt; full.end, End::Done);
     bytes.push(b'\n')?;

@@ -7,7 +7,7 @@ use cd_value::{Memory, Text};
 use std::alloc::Global;
 
 /// How a run of the daemon ends.
-#[derive(Clone, Copy, Debug, PartialEq, Eq)]
+#[derive(Debug, Drop, PartialEq, Eq)]
 pub enum End {
     /// All lines that were heard were served.
     Done,

@@ -39,7 +39,6 @@ module _ {Line : Type 0} (says : Line → ℕ → Said) where
   joined {rest = rest} (listed {text = text} {answer = answer} is t) u =
       as_text (listed is (joined t u)) (sym (append_assoc (reply_text (found_reply answer)) text rest))
 
-
   -- ---- one transcript alone
 
   -- whether a line offers lists doesn't depend on the moment

@@ -41,7 +41,7 @@ fn serve_here(rt: &HostRuntime) -> Outcome {
 /// Serves, writes what is to be said on standard error, and gives the exit status.
 pub fn start(rt: &HostRuntime) -> ExitCode {
     let outcome = serve_here(rt);
-    if let Some(message) = outcome.message {
+    if let Some(message) = &outcome.message {
         let _ = rt.eprint(message.as_str());
     }
     ExitCode::from(outcome.status)
