@@ -1,5 +1,5 @@
 -- What was heard, served and said in a dialogue.
-use Rattle.std.specs.Prelude.{◌≡◌, ◌≤◌, ◌<◌, ◌⊎◌, ℕ, List, [], ◌++◌, length, map, take, nat_lt, if◌then◌else◌, Result, Ok, Err}
+use Rattle.std.specs.Prelude.{◌≡◌, ◌≤◌, ◌<◌, ◌⊎◌, ℕ, List, [], ◌++◌, length, map, take, Result, Ok, Err}
 use Rattle.cd_io.specs.Causes.{Rose}
 use Rattle.cd_io.specs.Link.{LinkTells, HasEnded, Spoke}
 use Rattle.cd_sock.specs.Lines.{BeginsWith, Cut, HasCut, cut, cut_lines, whole_lines}

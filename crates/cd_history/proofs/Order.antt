@@ -1,8 +1,7 @@
 -- A history and its events in the order in which they came: what holds of the one holds of the other.
-use Rattle.std.proofs.Common.{◌≡◌, ℕ, Bool, true, false, nat_eq, List, [], ◌∷◌, ◌++◌, reverse, refl, sym, ap, ◌∙◌, append_assoc}
+use Rattle.std.proofs.Common.{◌≡◌, ℕ, Bool, true, false, nat_eq, List, [], ◌∷◌, ◌++◌, refl, sym, ap, ◌∙◌}
 use Rattle.std.proofs.lemmas.List.{append-nil, reverse-append, reverse-reverse}
 use Rattle.std.proofs.lemmas.List.Elements.{filter-append}
-use Rattle.std.specs.List.{filter}
 use Rattle.cd_history.specs.History.{Event, History, ◌▸◌, actor_of, mine}
 use Rattle.cd_history.specs.Order.{history_of, Continues}
 

@@ -1,7 +1,6 @@
 -- Which calls were taken and answered.
 use Rattle.std.specs.Prelude.{ℕ, ◌+◌, nat_eq, if◌then◌else◌, List, [], ◌∷◌, ◌++◌, Option, None, Some}
 use Rattle.cd_registry.specs.declared.calls.Answer.{Answer}
-use Rattle.cd_history.specs.declared.entry.Entry.{Entry}
 use Rattle.cd_history.specs.declared.entry.Entry.TheVariants as entry
 use Rattle.cd_history.specs.History.{History, ◌▸◌}
 

@@ -7,7 +7,7 @@ use Rattle.cd_io.specs.Told.{Loses}
 use Rattle.cd_registry.specs.declared.kinds.TheConstants.Kinds.{WRITE}
 use Rattle.cd_registry.specs.declared.plug.PlugTells.{PlugTells}
 use Rattle.cd_sock.specs.Lines.{Cut}
-use Rattle.cd_history.specs.History.{Event, History}
+use Rattle.cd_history.specs.History.{Event}
 use Rattle.cd_history.specs.Registrations.{has_kind}
 use Rattle.cd_daemon.specs.declared.Opening.{Opening}
 use Rattle.cd_cache.specs.Cache.{empty}
@@ -22,8 +22,7 @@ use Rattle.cd_dialogue.specs.Dialogues.{ServesInput}
 use Rattle.cd_dialogue.specs.Inputs.{MemoryLacked, lines_within}
 use Rattle.cd_dialogue.proofs.Breaking.{begins_none}
 use Rattle.cd_io.proofs.Speaking.{spoke_nothing}
-use Rattle.cd_history.specs.declared.given.Given.{Given}
-use Rattle.cd_transcript.specs.Transcripts.{line_says, of_lines, IsTranscript, nothing}
+use Rattle.cd_transcript.specs.Transcripts.{line_says, IsTranscript, nothing}
 use Rattle.cd_transcript.specs.LineRuns.{OnShelf, none}
 use Rattle.cd_transcript.proofs.Events.{opens-of_lines}
 use Rattle.cd_serve.specs.declared.end.End.{End}

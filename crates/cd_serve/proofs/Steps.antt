@@ -19,7 +19,7 @@ use Rattle.cd_history.specs.Registrations.{Registration, registrations, live, li
 use Rattle.cd_history.specs.Leases.{takes, answers_to, taken_by}
 use Rattle.cd_daemon.specs.declared.Opening.{Opening}
 use Rattle.cd_cache.specs.Cache.{CacheMap}
-use Rattle.cd_daemon.specs.Handling.{Handling, Post, to_each, stored, handling, handling_if_any, next_list, next_handling}
+use Rattle.cd_daemon.specs.Handling.{Handling, to_each, stored, handling, handling_if_any, next_list, next_handling}
 use Rattle.cd_daemon.specs.Calls.{cache_after}
 use Rattle.cd_daemon.specs.Calls.{calls_to, pending, sent_to}
 use Rattle.cd_daemon.specs.Answers.{accept_answer, handle_answer, query_answer, ready, is_ready, next_call, is_idle}

@@ -1,6 +1,6 @@
 -- What a run over lines promises. This is the public theorem: `run` and `run_of` cite what stands here, with what it cites,
 -- and nothing else.
-use Rattle.std.specs.Prelude.{◌≡◌, ◌≤◌, ◌&&◌, not, ℕ, Bool, false, Some, List, [], ◌∷◌, codes, length}
+use Rattle.std.specs.Prelude.{◌≡◌, ◌≤◌, ℕ, Bool, false, Some, List, [], ◌∷◌, codes, length}
 use Rattle.std.specs.Str.{bytes_eq}
 use Rattle.cd_io.specs.Link.{LinkTells}
 use Rattle.cd_types.specs.Types.{builtin}

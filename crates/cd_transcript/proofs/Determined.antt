@@ -11,7 +11,7 @@ use Rattle.cd_history.specs.declared.entry.Entry.TheVariants as entry
 use Rattle.cd_history.specs.declared.entry.Why.TheVariants as why
 use Rattle.cd_history.specs.declared.given.Given.{Given}
 use Rattle.cd_history.specs.declared.given.Given.TheVariants.{Now, Word, Answered}
-use Rattle.cd_history.specs.History.{Event, History, ◌▸◌, handles, kept}
+use Rattle.cd_history.specs.History.{History, ◌▸◌, handles, kept}
 use Rattle.cd_history.specs.Registrations.{live}
 use Rattle.cd_daemon.specs.declared.Opening.{Opening}
 use Rattle.cd_daemon.specs.Answers.{accept_answer, handle_answer, query_answer, ready, next_call, is_idle}

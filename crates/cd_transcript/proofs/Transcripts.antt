@@ -1,7 +1,5 @@
 -- Transcripts go on, and lines and events have one alone.
-use Rattle.std.proofs.Common.{◌≡◌, ℕ, Bool, List, [], ◌∷◌, ◌++◌, None, Some, Result, Ok, Err, refl, sym, ap, ◌∙◌, subst, append_assoc}
-use Rattle.std.proofs.lemmas.List.{append-nil}
-use Rattle.std.specs.List.{filter}
+use Rattle.std.proofs.Common.{◌≡◌, ℕ, Bool, List, ◌∷◌, ◌++◌, None, Some, Result, Ok, Err, refl, sym, ap, ◌∙◌, subst, append_assoc}
 use Rattle.cd_value.specs.declared.data.Offered.{Offered}
 use Rattle.cd_value.specs.declared.data.ValueList.{ValueList}
 use Rattle.cd_value.specs.Identifier.{Fields, name_of}
@@ -12,13 +10,8 @@ use Rattle.cd_sock.specs.Replies.{reply_text}
 use Rattle.cd_history.specs.declared.entry.Entry.TheVariants as entry
 use Rattle.cd_history.specs.declared.entry.Found.{Found}
 use Rattle.cd_history.specs.declared.entry.Stopping.{Stopping}
-use Rattle.cd_history.specs.declared.given.Given.{Given}
-use Rattle.cd_history.specs.History.{Event, History, ◌▸◌}
-use Rattle.cd_history.proofs.Order.{history_of-more}
-use Rattle.cd_history.specs.Registrations.{Registration}
-use Rattle.cd_daemon.specs.declared.Opening.{Opening}
-use Rattle.cd_transcript.specs.Transcripts.{Said, is_of_a_line, of_lines, offered_reply, found_reply, IsTranscript, nothing, looked, blank, refused, put, got, listed}
-use Rattle.cd_transcript.specs.LineRuns.{OnShelf, Opens, none, plug_in, Works, nothing as no_work, called, handled, closed}
+use Rattle.cd_history.specs.History.{Event}
+use Rattle.cd_transcript.specs.Transcripts.{Said, offered_reply, found_reply, IsTranscript, nothing, looked, blank, refused, put, got, listed}
 
 module _ {Line : Type 0} (says : Line → ℕ → Said) where
   pub as_text : {lines : List Line} {events : List Event} {text other : List ℕ} → IsTranscript says lines events text → text ≡ other → IsTranscript says lines events other

@@ -1,9 +1,8 @@
 -- How far a run over lines has come.
-use Rattle.std.specs.Prelude.{◌≡◌, ◌⊎◌, ◌&&◌, not, ℕ, Bool, false, List, [], ◌∷◌, ◌++◌, length, map, Option, None, Some, Ok}
+use Rattle.std.specs.Prelude.{◌≡◌, ◌⊎◌, ◌&&◌, not, ℕ, Bool, false, List, [], ◌∷◌, ◌++◌, length, map, Ok}
 use Rattle.cd_value.specs.declared.data.DataSet.{DataSet}
 use Rattle.cd_value.specs.declared.data.ValueList.{ValueList}
 use Rattle.cd_cache.specs.Cache.{CacheMap}
-use Rattle.cd_sock.specs.declared.fault.LineFault.TheVariants.{LineTooLong}
 use Rattle.cd_sock.specs.declared.command.Command.{Command}
 use Rattle.cd_sock.specs.declared.command.Command.TheVariants as command
 use Rattle.cd_sock.specs.declared.reply.Reply.{Reply}
@@ -14,9 +13,7 @@ use Rattle.cd_cache.specs.Rows.{rows_of}
 use Rattle.cd_value.specs.Identifier.{name_of}
 use Rattle.cd_daemon.specs.Answers.{found_in, is_reserved}
 use Rattle.cd_sock.specs.Meaning.{meaning}
-use Rattle.std.specs.Option.{option_map}
-use Rattle.cd_io.specs.Told.{clock_after, dice_after}
-use Rattle.cd_registry.specs.declared.plug.PlugTells.{PlugTells}
+use Rattle.cd_io.specs.Told.{dice_after}
 use Rattle.cd_registry.specs.declared.calls.Answer.{Answer}
 use Rattle.cd_registry.specs.declared.calls.Call.{Call}
 use Rattle.cd_daemon.specs.Handling.{stored}

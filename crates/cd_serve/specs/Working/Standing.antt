@@ -2,9 +2,6 @@
 use Rattle.std.specs.Prelude.{◌≡◌, ◌⊎◌, ℕ, Bool, true, false, List, [], ◌∷◌, ◌++◌, length, None}
 use Rattle.std.specs.List.{filter}
 use Rattle.cd_value.specs.declared.data.ValueList.{ValueList}
-use Rattle.cd_registry.specs.declared.calls.Answer.{Answer}
-use Rattle.cd_registry.specs.declared.calls.Call.{Call}
-use Rattle.cd_registry.specs.Told.{told_after}
 use Rattle.cd_history.specs.History.{History, handles, is_stopped, kept}
 use Rattle.cd_registry.specs.declared.kinds.TheConstants.Kinds.{WRITE}
 use Rattle.cd_history.specs.Registrations.{Registration, registrations, is_closed, is_retired, is_plug, has_kind}

@@ -1,4 +1,3 @@
-use Rattle.std.proofs.Common.{true, false, sym, ◌∙◌, ◌≡◌}
 use Rattle.cd_serve.proofs.Promises.{few_shown, first_is, nothing_served, pairs_same, run_back, run_completed_as, run_promised_as}
 use Rattle.cd_serve.proofs.program.run_of.Goals as goal
 
