@@ -10,10 +10,12 @@ use Rattle.cd_reading.specs.First.{◌>>=◌, unless}
 use Rattle.cd_reading.specs.Gives.{Gives}
 use Rattle.cd_text.specs.declared.fault.NumFault.{NumFault}
 use Rattle.cd_text.specs.declared.word.Word.{Word}
-use Rattle.cd_text.specs.Millionths.{millionths}
+use Rattle.cd_text.specs.Millionths.{bounded_millionths, ones_limit}
+use Rattle.cd_text.specs.declared.numbers.TheConstants.{DIGITS_LIMIT}
 use Rattle.cd_text.specs.Number.{denominator, is_number, number_of, numerator, parts_of, value, with_sign}
 use Rattle.cd_text.specs.declared.fault.NumFault.TheVariants.{BadNumber, OutOfRange}
 use Rattle.cd_types.specs.Types.{fits, fits_set, fits_source, is_in_range, is_same_kind, kind_of, set_named}
+use Rattle.cd_value.specs.declared.numbers.TheConstants.{NUMBER_LIMIT}
 use Rattle.cd_value.specs.Identifier.{Fields}
 use Rattle.cd_value.specs.declared.data.DataSet.{DataSet}
 use Rattle.cd_value.specs.declared.data.DataSource.{DataSource}
@@ -29,38 +31,38 @@ use Rattle.cd_sock.specs.declared.fault.LineFault.TheVariants.{LineTooLong, NotU
 use Rattle.cd_sock.specs.Values.{change_of, count_of, has_count, has_time, has_values, is_unknown, reading, Reading, value_at, value_of, value_texts}
 use Rattle.cd_sock.specs.Arguments.{from_first_plain, is_keyword, last_interval, leading_options}
 use Rattle.cd_sock.specs.Faults.{line_fault, need, of_words, with_fault}
-use Rattle.cd_sock.specs.Meaning.{Request, Blank, PutVal, GetVal, ListVal, ListsFit, at_moment, command_at, get_val, has_interval, identifier, is_blank_byte, is_blank_line, is_interval, list_at, list_val, meaning, put_known, put_parts, put_val, request_of, request_of_text, request_of_words, without_return}
+use Rattle.cd_sock.specs.Meaning.{Request, Blank, PutVal, GetVal, ListVal, ListsFit, at_moment, command_at, get_val, has_interval, identifier, is_blank_byte, is_blank_line, is_interval, list_at, list_val, put_known, put_parts, put_val, request_of, request_of_text, request_of_words, without_return}
 use Rattle.cd_text.specs.Quoting.{words_of}
 use Rattle.std.specs.Str.{is_utf8}
 use Rattle.std.specs.Prelude.{codes, unwrap_or}
 
 -- ---- a value
 
--- a number of millionths is at most 10^30
+-- a number of millionths is at most NUMBER_LIMIT
 abbrev IsSmall : Result ℤ NumFault → Type 0
-IsSmall (Ok level) = nat_abs level ≤ 10 ^ 30
+IsSmall (Ok level) = nat_abs level ≤ NUMBER_LIMIT
 IsSmall (Err f) = Unit {0}
 
-signed_small : (is_negative : Bool) (n : ℕ) → n ≤ 10 ^ 30 → IsSmall (with_sign is_negative (Some n))
+signed_small : (is_negative : Bool) (n : ℕ) → n ≤ NUMBER_LIMIT → IsSmall (with_sign is_negative (Some n))
 signed_small true zero le = le
 signed_small true (suc n) le = le
 signed_small false n le = le
 
-millionths_small : (is_negative : Bool) (n d : ℕ) → IsSmall (with_sign is_negative (millionths n d))
-unfolding millionths
-millionths_small is_negative n d = by (nat_lt (10 ^ 24 * d) n) refl
+millionths_small : (is_negative : Bool) (n d : ℕ) → IsSmall (with_sign is_negative (bounded_millionths n d))
+unfolding bounded_millionths
+millionths_small is_negative n d = by (nat_lt (ones_limit * d) n) refl
   where
-    by : (t : Bool) → nat_lt (10 ^ 24 * d) n ≡ t → IsSmall (with_sign is_negative (cond t None (Some (n * 10 ^ 6 / d))))
+    by : (t : Bool) → nat_lt (ones_limit * d) n ≡ t → IsSmall (with_sign is_negative (cond t None (Some (n * 10 ^ 6 / d))))
     by true e = tt
     by false e =
-        let le : n ≤ 10 ^ 24 * d = ltb-false (10 ^ 24 * d) n e in
+        let le : n ≤ ones_limit * d = ltb-false (ones_limit * d) n e in
         signed_small is_negative (n * 10 ^ 6 / d) (div-le_of_le-mul d (omega arith))
 
 number_small : (text : List ℕ) → IsSmall (number_of text)
 unfolding number_of
-number_small text = by (is_number (parts_of text)) (nat_lt 36 (length (parts_of text).whole + length (parts_of text).fraction))
+number_small text = by (is_number (parts_of text)) (nat_lt DIGITS_LIMIT (length (parts_of text).whole + length (parts_of text).fraction))
   where
-    by : (a b : Bool) → IsSmall (cond a (cond b (Err OutOfRange) (with_sign (parts_of text).is_negative (millionths (numerator (parts_of text)) (denominator (parts_of text))))) (Err BadNumber))
+    by : (a b : Bool) → IsSmall (cond a (cond b (Err OutOfRange) (with_sign (parts_of text).is_negative (bounded_millionths (numerator (parts_of text)) (denominator (parts_of text))))) (Err BadNumber))
     by true true = tt
     by true false = millionths_small (parts_of text).is_negative (numerator (parts_of text)) (denominator (parts_of text))
     by false b = tt
@@ -250,10 +252,7 @@ command_fits types B now interval (Ok request) command stands e =
 command_fits types B now interval (Err f) command stands e = absurd cc
 
 -- the lists of a line's command fit the types, whenever it is read
-pub lists_fit : (types : List DataSet) (now interval : ℕ) (line : List ℕ) (command : Command) → meaning types now interval line ≡ Ok command → ListsFit types command
-lists_fit types now interval line command e = command_fits types (is_blank_line line ≡ true) now interval (request_of types line) command (line_stands types line) e
 
--- the same of what a text was read as
 pub read_fits : (types : List DataSet) (now interval : ℕ) (text : List ℕ) (result : Result Command LineFault) → Gives (λ command. command) line_fault result (at_moment now interval (request_of_text types text))
     → IfOk result (λ command. ListsFit types command)
 read_fits types now interval text (Ok command) given = command_fits types (Unit {0}) now interval (request_of_text types text) command (text_stands types (Unit {0}) text (λ e. tt)) given

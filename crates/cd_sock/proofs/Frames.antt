@@ -10,6 +10,7 @@ use Rattle.std.proofs.lemmas.Fmt.{decimal_is_IsNumeral}
 use Rattle.std.proofs.lemmas.List.{append-nil}
 use Rattle.std.proofs.lemmas.List.Folds.{list_all-append, list_any-append}
 use Rattle.std.proofs.lemmas.Str.Parse.{digit_at, without_leading_plus_none}
+use Rattle.cd_value.specs.declared.numbers.TheConstants.{SECOND}
 use Rattle.cd_value.specs.declared.data.Rate.{Rate}
 use Rattle.cd_value.specs.Print.{digit, six_digits, unsigned_text, number_or_nan}
 use Rattle.cd_value.specs.Rates.{millionths}
@@ -215,8 +216,8 @@ rows_have_lines : (rows : List (ℕ × List ℕ)) → list_all (λ row. is_one_l
 rows_have_lines [] plain = no_lines
 rows_have_lines (row ∷ rows) plain =
     let parts = and_parts (is_one_line row.1) (list_all (λ row. is_one_line row.1) rows) plain in
-    one_more (length rows) (decimal (row.0 / 2 ^ 30) ++ codes " " ++ row.1) (flat_map row_line rows)
-    (lacks_both 10 (decimal (row.0 / 2 ^ 30) ++ codes " ") row.1 (lacks_both 10 (decimal (row.0 / 2 ^ 30)) (codes " ") (decimal_lacks 10 (row.0 / 2 ^ 30) (omega arith)) refl) parts.0)
+    one_more (length rows) (decimal (row.0 / SECOND) ++ codes " " ++ row.1) (flat_map row_line rows)
+    (lacks_both 10 (decimal (row.0 / SECOND) ++ codes " ") row.1 (lacks_both 10 (decimal (row.0 / SECOND)) (codes " ") (decimal_lacks 10 (row.0 / SECOND) (omega arith)) refl) parts.0)
     (rows_have_lines rows parts.1)
 
 pub rows_framed : (rows : List (ℕ × List ℕ)) → length rows < 2 ^ 64 → list_all (λ row. is_one_line row.1) rows ≡ true → IsFramed (values_found (length rows) ++ flat_map row_line rows)

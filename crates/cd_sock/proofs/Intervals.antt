@@ -1,5 +1,5 @@
 -- The interval of PUTVAL's options.
-use Rattle.std.proofs.Common.{◌≡◌, ℕ, ◌-◌, Bool, true, false, ◌&&◌, List, [], ◌∷◌, ◌++◌, length, Option, Some, None, Err, refl, ap, ◌∙◌, arith, length-append}
+use Rattle.std.proofs.Common.{◌≡◌, ℕ, ◌-◌, Bool, true, false, ◌&&◌, List, [], ◌∷◌, ◌++◌, length, Option, Some, None, refl, ap, ◌∙◌, arith, length-append}
 use Rattle.std.specs.Prelude.{slice_get, ok_or, option_and_then, is_some}
 use Rattle.std.specs.List.{list_all}
 use Rattle.std.proofs.lemmas.List.Folds.{list_all-append}
@@ -36,9 +36,3 @@ interval_at_last options earlier last global same named given = by (interval_of 
         = given_by_all options earlier last same ∙ ap (λ (b : Bool). b && (has_interval last && true)) given ∙ ap (λ (o : Option ℕ). is_some o && true) e in
         let own : last_interval options ≡ Some t = ap last_interval same ∙ last_is earlier last ∙ e in
         rw (named, all, own) refl
-
-pub bad_earlier : (options earlier : List Word) (last : Word) (global : ℕ) → options ≡ earlier ++ last ∷ [] → list_all is_interval options ≡ true
-    → list_all has_interval earlier ≡ false → Err BadTime ≡ interval_in options global
-bad_earlier options earlier last global same named given =
-    let all : list_all has_interval options ≡ false = given_by_all options earlier last same ∙ ap (λ (b : Bool). b && (has_interval last && true)) given in
-    rw (named, all) refl

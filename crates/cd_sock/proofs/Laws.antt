@@ -1,96 +1,49 @@
 -- Laws of the meaning of a line.
-use Rattle.std.proofs.Common.{◌≡◌, ℕ, Bool, true, false, cond, List, [], ◌∷◌, map, length, Some, None, Result, Ok, Err, refl, sym, ap, ◌∙◌}
-use Rattle.std.specs.Prelude.{IfOk, nat_lt, nat_le, unwrap_or}
+use Rattle.std.proofs.Common.{◌≡◌, ℕ, Bool, true, List, [], ◌∷◌, length, map, Option, Result, Ok, Err, refl, sym, ap, subst, ◌∙◌}
+use Rattle.std.specs.Prelude.{◌↔◌, IfOk, IsOkAnd, IsTrue, nat_le, unwrap_or}
 use Rattle.std.specs.List.{list_all}
-use Rattle.std.proofs.lemmas.List.{length-map}
-use Rattle.std.proofs.lemmas.Bool.{and_parts, lt-leb, ltb-true}
-use Rattle.cd_reading.specs.First.{◌>>=◌, unless}
+use Rattle.std.proofs.lemmas.Bool.{and_parts}
+use Rattle.cd_reading.specs.Gives.{Gives}
 use Rattle.cd_value.specs.declared.data.DataSet.{DataSet}
 use Rattle.cd_value.specs.declared.data.ValueList.{ValueList}
 use Rattle.cd_value.specs.Identifier.{Fields}
 use Rattle.cd_sock.specs.declared.lines.TheConstants.{LINE_LIMIT}
+use Rattle.cd_sock.specs.declared.command.Command.{Command}
 use Rattle.cd_sock.specs.declared.command.Command.TheVariants as commands
 use Rattle.cd_sock.specs.declared.fault.LineFault.{LineFault}
-use Rattle.cd_sock.specs.declared.fault.LineFault.TheVariants.{LineTooLong}
-use Rattle.cd_sock.specs.Lines.{cut}
+use Rattle.cd_sock.specs.Faults.{line_fault}
+use Rattle.cd_sock.specs.Values.{Reading}
 use Rattle.cd_sock.proofs.Fits.{Stands, line_stands}
-use Rattle.cd_sock.specs.Meaning.{Request, Blank, PutVal, GetVal, ListVal, at_moment, is_blank_byte, is_blank_line, list_at, meaning, request_of, request_of_text, without_return}
-
--- a line that is cut as too long is refused as such
-pub too_long : (types : List DataSet) (now interval : ℕ) (line : List ℕ) → cut line ≡ None → meaning types now interval line ≡ Err LineTooLong
-unfolding request_of
-too_long types now interval line e = by (nat_lt LINE_LIMIT (length line)) refl e
-  where
-    by : (t : Bool) → nat_lt LINE_LIMIT (length line) ≡ t → cond t None (Some line) ≡ None → meaning types now interval line ≡ Err LineTooLong
-    by true h e =
-        ap (λ (b : Bool). at_moment now interval (unless ((b, LineTooLong) ∷ []) line >>= λ line. request_of_text types (without_return line)))
-        (lt-leb (length line) LINE_LIMIT (ltb-true LINE_LIMIT (length line) h))
-    by false h e = cc
+use Rattle.cd_sock.specs.Meaning.{Request, Blank, PutVal, GetVal, ListVal, IsSameButTimes, at_moment, command_at, is_blank_byte, is_blank_line, list_at, meaning, request_of, request_of_text, without_return, without_times}
 
 -- ---- the moment and the global interval change only times and intervals
 
 module _ (types : List DataSet) (now interval later other : ℕ) (line : List ℕ) where
-  pub same_fault : (f : LineFault) → meaning types now interval line ≡ Err f → meaning types later other line ≡ Err f
-  same_fault f e = by (request_of types line) e
+  same_command : (command : Command) → meaning types now interval line ≡ Ok command → IsOkAnd (meaning types later other line) (IsSameButTimes command)
+  same_command command e = by (request_of types line) e
     where
-      by : (read : Result Request LineFault) → at_moment now interval read ≡ Err f → at_moment later other read ≡ Err f
-      by (Ok Blank) e = cc
-      by (Ok (PutVal id own readings)) e = cc
-      by (Ok (GetVal id)) e = cc
-      by (Ok ListVal) e = cc
-      by (Err g) e = cc
+      same_lists : (id : Fields) (one two : ℕ) (own : Option ℕ) (readings : List Reading) → map without_times (map (list_at now one id) readings) ≡ map without_times (map (list_at later two id) readings)
+      same_lists id one two own [] = refl
+      same_lists id one two own (reading ∷ readings) = ap (λ (lists : List ValueList). without_times (list_at later two id reading) ∷ lists) (same_lists id one two own readings)
 
-  pub same_blank : meaning types now interval line ≡ Ok commands.Blank → meaning types later other line ≡ Ok commands.Blank
-  same_blank e = by (request_of types line) e
-    where
-      by : (read : Result Request LineFault) → at_moment now interval read ≡ Ok commands.Blank → at_moment later other read ≡ Ok commands.Blank
-      by (Ok Blank) e = refl
-      by (Ok (PutVal id own readings)) e = cc
-      by (Ok (GetVal id)) e = cc
-      by (Ok ListVal) e = cc
-      by (Err g) e = cc
-
-  pub same_get_val : (id : Fields) → meaning types now interval line ≡ Ok (commands.GetVal id) → meaning types later other line ≡ Ok (commands.GetVal id)
-  same_get_val id e = by (request_of types line) e
-    where
-      by : (read : Result Request LineFault) → at_moment now interval read ≡ Ok (commands.GetVal id) → at_moment later other read ≡ Ok (commands.GetVal id)
-      by (Ok Blank) e = cc
-      by (Ok (PutVal id own readings)) e = cc
-      by (Ok (GetVal id)) e = e
-      by (Ok ListVal) e = cc
-      by (Err g) e = cc
-
-  pub same_list_val : meaning types now interval line ≡ Ok commands.ListVal → meaning types later other line ≡ Ok commands.ListVal
-  same_list_val e = by (request_of types line) e
-    where
-      by : (read : Result Request LineFault) → at_moment now interval read ≡ Ok commands.ListVal → at_moment later other read ≡ Ok commands.ListVal
-      by (Ok Blank) e = cc
-      by (Ok (PutVal id own readings)) e = cc
-      by (Ok (GetVal id)) e = cc
-      by (Ok ListVal) e = refl
-      by (Err g) e = cc
-
-  -- as many lists
-  pub same_put_val : (lists : List ValueList) → meaning types now interval line ≡ Ok (commands.PutVal lists)
-      → (more : List ValueList) × (meaning types later other line ≡ Ok (commands.PutVal more)) × (length more ≡ length lists)
-  same_put_val lists e = by (request_of types line) e
-    where
-      by : (read : Result Request LineFault) → at_moment now interval read ≡ Ok (commands.PutVal lists)
-          → (more : List ValueList) × (at_moment later other read ≡ Ok (commands.PutVal more)) × (length more ≡ length lists)
-      by (Ok Blank) e = absurd cc
-      by (Ok (PutVal id own readings)) e =
-          let same : map (list_at now (unwrap_or own interval) id) readings ≡ lists = cc in (
-            map (list_at later (unwrap_or own other) id) readings,
-            refl,
-            length-map readings (list_at later (unwrap_or own other) id) ∙ sym (length-map readings (list_at now (unwrap_or own interval) id)) ∙ ap length same,
-          )
-      by (Ok (GetVal id)) e = absurd cc
-      by (Ok ListVal) e = absurd cc
+      by : (read : Result Request LineFault) → at_moment now interval read ≡ Ok command → IsOkAnd (at_moment later other read) (IsSameButTimes command)
+      by (Ok request) e = let is : command_at now interval request ≡ command = cc in subst (λ (c : Command). IsSameButTimes c (command_at later other request)) is (alike request)
+        where
+          alike : (request : Request) → IsSameButTimes (command_at now interval request) (command_at later other request)
+          alike Blank = refl
+          alike (PutVal id own readings) = same_lists id (unwrap_or own interval) (unwrap_or own other) own readings
+          alike (GetVal id) = refl
+          alike ListVal = refl
       by (Err g) e = absurd cc
+
+pub read_same : (types : List DataSet) (now interval : ℕ) (line : List ℕ) (result : Result Command LineFault) → Gives (λ command. command) line_fault result (meaning types now interval line)
+    → IfOk result (λ command. (later other : ℕ) → IsOkAnd (meaning types later other line) (IsSameButTimes command))
+read_same types now interval line (Ok command) h = λ later other. same_command types now interval later other line command h
+read_same types now interval line (Err f) h = tt
 
 -- ---- blank lines
 
-pub blank_line : (types : List DataSet) (now interval : ℕ) (line : List ℕ) → is_blank_line line ≡ true → meaning types now interval line ≡ Ok commands.Blank
+blank_line : (types : List DataSet) (now interval : ℕ) (line : List ℕ) → is_blank_line line ≡ true → meaning types now interval line ≡ Ok commands.Blank
 unfolding request_of request_of_text
 blank_line types now interval line e =
     let parts = and_parts (nat_le (length line) LINE_LIMIT) (list_all is_blank_byte (without_return line)) e in
@@ -98,7 +51,7 @@ blank_line types now interval line e =
     let blank : list_all is_blank_byte (without_return line) ≡ true = parts.1 in
     rw (short, blank) refl
 
-pub blank_only : (types : List DataSet) (now interval : ℕ) (line : List ℕ) → meaning types now interval line ≡ Ok commands.Blank → is_blank_line line ≡ true
+blank_only : (types : List DataSet) (now interval : ℕ) (line : List ℕ) → meaning types now interval line ≡ Ok commands.Blank → is_blank_line line ≡ true
 blank_only types now interval line e = by (request_of types line) (line_stands types line) e
   where
     by : (read : Result Request LineFault) → IfOk read (Stands types (is_blank_line line ≡ true)) → at_moment now interval read ≡ Ok commands.Blank → is_blank_line line ≡ true
@@ -107,3 +60,6 @@ blank_only types now interval line e = by (request_of types line) (line_stands t
     by (Ok (GetVal id)) stands e = cc
     by (Ok ListVal) stands e = cc
     by (Err f) stands e = cc
+
+pub is_blank_only : (types : List DataSet) (now interval : ℕ) (line : List ℕ) (result : Bool) → result ≡ is_blank_line line → IsTrue result ↔ (meaning types now interval line ≡ Ok commands.Blank)
+is_blank_only types now interval line result e = (λ h. blank_line types now interval line (sym e ∙ h), λ h. e ∙ blank_only types now interval line h)

@@ -1,5 +1,5 @@
 -- Lines of a stream that comes in pieces.
-use Rattle.std.proofs.Common.{◌≡◌, ℕ, suc, zero, ◌+◌, ◌≤◌, ◌<◌, List, [], ◌∷◌, ◌++◌, length, take, drop, get_or, map, Bool, true, false, Option, Some, None, cond, refl, sym, ap, ◌∙◌, append_assoc, subst, arith, length-append, length-take, nat_lt, add-one, add_comm, inl, inr}
+use Rattle.std.proofs.Common.{◌≡◌, ℕ, suc, zero, ◌+◌, ◌≤◌, ◌<◌, List, [], ◌∷◌, ◌++◌, length, take, drop, get_or, map, Bool, true, false, Option, Some, None, cond, refl, sym, ap, ◌∙◌, append_assoc, subst, arith, length-append, length-take, add-one, add_comm, inl, inr}
 use Rattle.std.proofs.lemmas.List.{append-nil, take_all, take-append-drop, get_or-take, map-append}
 use Rattle.std.proofs.lemmas.List.Splits.{slice_split_none, slice_split_at, length-slice_split}
 use Rattle.std.proofs.lemmas.List.Quantifiers.{position-Some}
@@ -8,6 +8,7 @@ use Rattle.std.proofs.lemmas.Bool.{cases_lt, lt-ltb, le-ltb, cond-true, cond-fal
 use Rattle.std.proofs.Math.Seq.{take-append-add, take-suc}
 use Rattle.std.specs.List.{concat, slice_split, onto_first, position, position_or_len}
 use Rattle.std.specs.Option.{option_to_list}
+use Rattle.cd_sock.proofs.AllOrNone.{none_cond, some_cond}
 use Rattle.cd_sock.specs.declared.lines.TheConstants.{LINE_LIMIT, HELD_LIMIT}
 use Rattle.cd_sock.specs.Lines.{is_newline, but_last, last_part, whole_lines, unfinished, if_not_empty, lines, Cut, cut, cut_lines, IsInLine, IsHeld, BeginsWith, HasCut, through_newline, Takes, Finishes, TakesAll, none, used_up, takes}
 
@@ -203,41 +204,25 @@ cut_last (x ∷ xs) [] e = absurd (elim (cases_lt LINE_LIMIT (length (x ∷ xs))
 ])
 cut_last (x ∷ xs) (y ∷ ys) e = ap (λ (c : Cut). c ∷ []) e
 
--- a cutter that holds nothing
-pub holds_nothing : (held : List ℕ) (cutter : Cut) → cut held ≡ cutter → cutter ≡ Some [] → held ≡ []
-holds_nothing held cutter was e = elim (cases_lt LINE_LIMIT (length held)) [
-  | inl long ↦ absurd (let h : None ≡ Some [] = sym (cut_long held long) ∙ was ∙ e in cc)
-  | inr short ↦ let h : Some held ≡ Some [] = sym (cut_short held short) ∙ was ∙ e in cc
-]
-
 -- ---- the first newline of a piece
 
 some_place : (piece : List ℕ) (i : ℕ) → position is_newline piece ≡ Some i → (i + 1 ≡ through_newline piece) × IsInLine (take i piece) × (take (i + 1) piece ≡ take i piece ++ 10 ∷ [])
 some_place piece i e =
     let at : (d : ℕ) → (i < length piece) × (is_newline (get_or piece i d) ≡ true) × ((k : ℕ) → k < i → is_newline (get_or piece k d) ≡ false) = λ d. position-Some is_newline piece i d e in
-    let place : position_or_len is_newline piece ≡ i = is_place (nat_lt (position_or_len is_newline piece) (length piece)) (position_or_len is_newline piece) e in
+    let place : position_or_len is_newline piece ≡ i = (some_cond _ (position_or_len is_newline piece) i e).1 in
     let newline : get_or piece i 0 ≡ 10 = eqb-true (get_or piece i 0) 10 (at 0).1 in
     let within : i < length piece = (at 0).0 in (
       omega (arith, place, within),
       λ k d lt. let below : k < i = omega (arith, length-take i piece) in rw get_or-take ((at d).2 k below),
       rw add-one (take-suc piece i 0 within) ∙ ap (λ (b : ℕ). take i piece ++ b ∷ []) newline,
     )
-  where
-    is_place : (t : Bool) (n : ℕ) → cond t (Some n) None ≡ Some i → n ≡ i
-    is_place true n h = cc
-    is_place false n h = absurd (cc)
 
 no_place : (piece : List ℕ) → position is_newline piece ≡ None → (length piece ≡ through_newline piece) × IsInLine piece
 no_place piece e =
-    let none_is : nat_lt (position_or_len is_newline piece) (length piece) ≡ false = is_false (nat_lt (position_or_len is_newline piece) (length piece)) (position_or_len is_newline piece) e in
-    let beyond : length piece ≤ position_or_len is_newline piece = ltb-false (position_or_len is_newline piece) (length piece) none_is in (
+    let beyond : length piece ≤ position_or_len is_newline piece = ltb-false (position_or_len is_newline piece) (length piece) (none_cond _ (position_or_len is_newline piece) e) in (
       omega (arith, beyond),
       λ k d lt. fails_before_first is_newline piece k d (omega (arith, beyond)),
     )
-  where
-    is_false : (t : Bool) (n : ℕ) → cond t (Some n) None ≡ None → t ≡ false
-    is_false true n h = absurd (cc)
-    is_false false n h = refl
 
 piece_in_line : (piece : List ℕ) → None ≡ position is_newline piece → IsInLine piece
 piece_in_line piece e = (no_place piece (sym e)).1
@@ -256,6 +241,10 @@ added held bytes few room fit f =
 
 -- ---- what was cut of the bytes heard
 
+first_whole_lines : (heard more : List ℕ) → BeginsWith (map cut (whole_lines (heard ++ more))) (map cut (whole_lines heard))
+first_whole_lines heard more =
+    (map cut (whole_lines (unfinished heard ++ more)), ap (map cut) (whole_joined heard more) ∙ map-append cut (whole_lines heard) (whole_lines (unfinished heard ++ more)))
+
 first_lines : (heard more : List ℕ) → BeginsWith (cut_lines (heard ++ more)) (map cut (whole_lines heard))
 unfolding cut_lines
 first_lines heard more =
@@ -266,6 +255,7 @@ has_cut heard given cutter whole rest = record {
   whole = whole;
   rest = rest;
   first = λ more. let B : List Cut → Type 0 = BeginsWith (cut_lines (heard ++ more)) in subst B (sym whole) (first_lines heard more);
+  first_whole = λ more. let B : List Cut → Type 0 = BeginsWith (map cut (whole_lines (heard ++ more))) in subst B (sym whole) (first_whole_lines heard more);
 }
 
 pub begins : (cutter : Cut) → cutter ≡ cut [] → HasCut [] [] cutter

@@ -137,11 +137,6 @@ time_read {E} now t true read e = (refl, cc)
 time_read {E} now t false (Ok x) e = (refl, cc)
 time_read {E} now t false (Err f) e = (cc, cc)
 
-pub no_time : {E : Type 0} (now : ℕ) (is_moment : Bool) (read : Result ℕ E) → cond is_moment (Some now) (result_ok read) ≡ None → (is_moment || is_ok read) ≡ false
-no_time {E} now true read e = cc
-no_time {E} now false (Ok x) e = cc
-no_time {E} now false (Err f) e = refl
-
 not_whole : (a b c : Bool) → (b && c) ≡ false → ((a && b) && c) ≡ false
 not_whole true b c e = e
 not_whole false b c e = refl

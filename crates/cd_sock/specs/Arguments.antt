@@ -43,4 +43,6 @@ interval_of text = option_and_then above_zero (result_ok (time_of text))
 
 -- the interval of the last of some options
 abbrev pub last_interval : List Word → Option ℕ
-last_interval options = option_and_then (λ option. interval_of (argument option)) (slice_get options (length options - 1))
+last_interval options =
+    option_and_then (λ option. interval_of (argument option))
+    (slice_get options (length options - 1))

@@ -68,32 +68,41 @@ pub record IsHeld (bytes : List ℕ) : Type 0 where
 abbrev pub BeginsWith : List Cut → List Cut → Type 0
 BeginsWith all first = (rest : List Cut) × (all ≡ first ++ rest)
 
--- of the bytes heard so far the lines that end with a newline were given, and the cutter has the unfinished one
+-- of the bytes heard so far the lines that end with a newline were given, and the cutter has the
+-- unfinished one
 pub record HasCut (heard : List ℕ) (given : List Cut) (cutter : Cut) : Type 0 where
   pub whole : given ≡ map cut (whole_lines heard)
   pub rest : cutter ≡ cut (unfinished heard)
-  -- however the stream goes on, its lines begin with those given
+  -- however the stream goes on, its lines begin with those given, and so do its whole lines
   pub first : (more : List ℕ) → BeginsWith (cut_lines (heard ++ more)) given
+  pub first_whole : (more : List ℕ) → BeginsWith (map cut (whole_lines (heard ++ more))) given
 
 -- how many bytes of a piece stand before and with its first newline, or all where it has none
 abbrev pub through_newline : List ℕ → ℕ
 through_newline piece = min (position_or_len is_newline piece + 1) (length piece)
 
 -- a call of `take` uses a piece through its first newline, and cuts those bytes
-pub record Takes (old : Cut) (piece : List ℕ) (used : ℕ) (line : Option Cut) (new : Cut) : Type 0 where
+pub record Takes (old : Cut) (piece : List ℕ) (used : ℕ) (line : Option Cut) (new : Cut)
+    : Type 0 where
   pub through : used ≡ through_newline piece
-  pub cuts : (heard : List ℕ) (given : List Cut) → HasCut heard given old → HasCut (heard ++ take used piece) (given ++ option_to_list line) new
+  pub cuts : (heard : List ℕ) (given : List Cut) → HasCut heard given old
+      → HasCut (heard ++ take used piece) (given ++ option_to_list line) new
 
 -- a call of `finish` gives the last line of the stream, and a new stream can begin
 pub record Finishes (old : Cut) (line : Option Cut) (new : Cut) : Type 0 where
-  pub last : (heard : List ℕ) (given : List Cut) → HasCut heard given old → given ++ option_to_list line ≡ cut_lines heard
+  pub last : (heard : List ℕ) (given : List Cut) → HasCut heard given old
+      → given ++ option_to_list line ≡ cut_lines heard
   pub begins : HasCut [] [] new
 
 -- ---- calls over all pieces of a stream
 
--- the calls of `take` over these pieces, of each of which they take until it is used up, give these lines
+-- the calls of `take` over these pieces, of each of which they take until it is used up, give these
+-- lines
 pub data TakesAll : List (List ℕ) → Cut → List Cut → Cut → Type 0 where
   none : {cutter : Cut} → TakesAll [] cutter [] cutter
-  used_up : {pieces : List (List ℕ)} {old new : Cut} {given : List Cut} → TakesAll pieces old given new → TakesAll ([] ∷ pieces) old given new
-  takes : {piece : List ℕ} {pieces : List (List ℕ)} {used : ℕ} {line : Option Cut} {old mid new : Cut} {given : List Cut}
-      → Takes old piece used line mid → TakesAll (drop used piece ∷ pieces) mid given new → TakesAll (piece ∷ pieces) old (option_to_list line ++ given) new
+  used_up : {pieces : List (List ℕ)} {old new : Cut} {given : List Cut}
+      → TakesAll pieces old given new → TakesAll ([] ∷ pieces) old given new
+  takes : {piece : List ℕ} {pieces : List (List ℕ)} {used : ℕ} {line : Option Cut}
+      {old mid new : Cut} {given : List Cut}
+      → Takes old piece used line mid → TakesAll (drop used piece ∷ pieces) mid given new
+      → TakesAll (piece ∷ pieces) old (option_to_list line ++ given) new

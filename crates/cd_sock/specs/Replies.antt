@@ -1,7 +1,8 @@
 -- The texts of replies.
-use Rattle.std.specs.Prelude.{ℕ, ◌/◌, ◌^◌, ◌==◌, if◌then◌else◌, List, [], ◌∷◌, ◌++◌, length, codes, Option, Some, None}
+use Rattle.std.specs.Prelude.{ℕ, ◌/◌, ◌==◌, if◌then◌else◌, List, [], ◌∷◌, ◌++◌, length, codes, Option, Some, None}
 use Rattle.std.specs.List.{flat_map}
 use Rattle.std.specs.Fmt.{decimal}
+use Rattle.cd_value.specs.declared.numbers.TheConstants.{SECOND}
 use Rattle.cd_value.specs.declared.data.Rate.{Rate}
 use Rattle.cd_value.specs.Print.{rate_text}
 use Rattle.cd_sock.specs.declared.fault.LineFault.{LineFault}
@@ -30,7 +31,8 @@ fault_text faults.Memory = codes "-1 Out of memory"
 
 -- how many lines follow
 abbrev pub values_found : ℕ → List ℕ
-values_found n = with_newline (decimal n ++ (if n == 1 then codes " Value found" else codes " Values found"))
+values_found n =
+    with_newline (decimal n ++ (if n == 1 then codes " Value found" else codes " Values found"))
 
 -- NaN where a data source has no rate
 abbrev pub rate_or_nan : Option Rate → List ℕ
@@ -49,11 +51,13 @@ rate_lines (name ∷ names) (rate ∷ rates) = rate_line name (Some rate) ++ rat
 
 -- the whole seconds of a time, a space and the name
 abbrev pub row_line : ℕ × List ℕ → List ℕ
-row_line row = with_newline (decimal (row.0 / 2 ^ 30) ++ codes " " ++ row.1)
+row_line row = with_newline (decimal (row.0 / SECOND) ++ codes " " ++ row.1)
 
 -- how many flushes succeeded, and how many failed
 abbrev pub flushed_line : ℕ → ℕ → List ℕ
-flushed_line successful errors = with_newline (codes "0 Done: " ++ decimal successful ++ codes " successful, " ++ decimal errors ++ codes " errors")
+flushed_line successful errors =
+    with_newline (codes "0 Done: " ++ decimal successful ++ codes " successful, "
+    ++ decimal errors ++ codes " errors")
 
 abbrev pub reply_text : Reply → List ℕ
 reply_text replies.Success = with_newline (codes "0 Success")

@@ -23,17 +23,21 @@ is_numeral text = nat_lt 0 (length text) && are_digits text
 
 -- digits of a number below 2^64
 abbrev pub count_of : List ℕ → Option ℕ
-count_of text = if is_numeral text && nat_lt (digits_value 10 text) (2 ^ 64) then Some (digits_value 10 text) else None
+count_of text =
+    if is_numeral text && nat_lt (digits_value 10 text) (2 ^ 64) then Some (digits_value 10 text)
+    else None
 
 -- of 64 bits with a sign: a magnitude of at most 2^63 below zero, and of less above
 abbrev pub fits_64_bits : Bool → ℕ → Bool
-fits_64_bits is_negative magnitude = if is_negative then nat_le magnitude (2 ^ 63) else nat_lt magnitude (2 ^ 63)
+fits_64_bits is_negative magnitude =
+    if is_negative then nat_le magnitude (2 ^ 63) else nat_lt magnitude (2 ^ 63)
 
 -- an optional sign and digits
 abbrev pub change_of : List ℕ → Option ℤ
 change_of text =
     let digits = without_leading_sign text in
-    if is_numeral digits && fits_64_bits (starts_with_minus text) (digits_value 10 digits) then Some (signed_digits_value 10 text) else None
+    if is_numeral digits && fits_64_bits (starts_with_minus text) (digits_value 10 digits)
+    then Some (signed_digits_value 10 text) else None
 
 -- `U`, or `nan` in any case, is an unknown level
 abbrev pub is_unknown : List ℕ → Bool
@@ -79,9 +83,11 @@ value_at pair = value_of pair.0.kind pair.1
 
 -- each value is of its source's kind
 abbrev pub has_values : List DataSource → Word → Bool
-has_values sources word = list_all (λ pair. is_some (value_at pair)) (zip sources (value_texts word.text))
+has_values sources word =
+    list_all (λ pair. is_some (value_at pair)) (zip sources (value_texts word.text))
 
--- what a value word says: its time, which is none for the moment at which the line is read, and its values
+-- what a value word says: its time, which is none for the moment at which the line is read, and its
+-- values
 pub record Reading : Type 0 where
   pub time : Option ℕ
   pub values : List Value
@@ -109,4 +115,6 @@ texts_in (Some rest) = slice_split is_colon rest
 -- the values of as many texts as there are sources, each of its source's kind
 unfoldable pub values_in : List DataSource → List (List ℕ) → Option (List Value)
 values_in sources texts =
-    if length texts == length sources && list_all (λ pair. is_some (value_at pair)) (zip sources texts) then Some (filter_map value_at (zip sources texts)) else None
+    if length texts == length sources
+    && list_all (λ pair. is_some (value_at pair)) (zip sources texts)
+    then Some (filter_map value_at (zip sources texts)) else None

@@ -1,7 +1,7 @@
-// The words of a command.
-ghost use Rattle.std.specs.Prelude.{◌≡◌, Result, Ok, Err};
+//! The words of a command.
+ghost use Rattle.std.specs.Prelude.{◌≡◌};
 ghost use Rattle.std.specs.List.{list_all, position, before_first, after_first};
-ghost use Rattle.cd_sock.specs.Arguments.{argument, from_first_plain, has_key, interval_of, is_equals, is_keyword, is_plain, key, leading_options};
+ghost use Rattle.cd_sock.specs.Arguments.{argument, from_first_plain, has_key, interval_of, is_equals, is_keyword, is_plain, leading_options};
 ghost use Rattle.cd_sock.specs.Meaning.{has_interval, interval_in, is_interval};
 
 use crate::LineFault;
@@ -57,7 +57,7 @@ fn is_interval(option: &Word) -> bool
     is_keyword(at_equals(option.text.as_str()).0, "interval")
 }
 
-/// The interval that an option gives, in units of 2^-30 s.
+/// The interval that an option gives, in 2^-30 s.
 fn interval_of(option: &Word) -> Option<u64>
     ensures { result ≡ interval_of (argument option.now) }
 {

@@ -1,9 +1,11 @@
-// The commands of clients.
-ghost use Rattle.std.specs.Prelude.{◌≡◌, ℕ, IfErr, IfOk, IsOk, OnOk, Result};
+//! The commands of clients.
+ghost use Rattle.std.specs.Prelude.{◌≡◌, ◌↔◌, ℕ, IfErr, IfOk, IsOkAnd, IsTrue, List};
 ghost use Rattle.std.specs.List.{list_all};
 ghost use Rattle.cd_reading.specs.Gives.{Gives, Refuses};
 ghost use Rattle.cd_sock.specs.Faults.{line_fault};
-ghost use Rattle.cd_sock.specs.Meaning.{ListsFit, at_moment, get_val, is_blank_byte, is_blank_line, list_val, meaning, put_known, put_parts, put_val, request_of_text, request_of_words, without_return};
+ghost use Rattle.cd_sock.specs.Lines.{cut};
+ghost use Rattle.cd_value.specs.declared.data.DataSet.{DataSet};
+ghost use Rattle.cd_sock.specs.Meaning.{GivesAt, IsSameButTimes, ListsFit, at_moment, get_val, is_blank_byte, is_blank_line, list_val, meaning, put_known, put_parts, put_val, request_of_text, request_of_words, without_return};
 
 use crate::arguments::{is_keyword, read_interval, split_options};
 use crate::lists::read_lists;
@@ -44,10 +46,12 @@ fn are_blank(text: &[u8]) -> bool
     text.iter().all(|byte| *byte == b' ' || *byte == b'\t')
 }
 
-/// Whether a line without its newline is blank, so that it is read as `Command::Blank` at any moment: it has at most `LINE_LIMIT`
-/// bytes, all of them spaces and tabs but for a carriage return at the end.
+/// Whether a line without its newline is blank: it has at most `LINE_LIMIT` bytes, all of them
+/// spaces and tabs but for a carriage return at the end.
 pub fn is_blank_line(line: &[u8]) -> bool
-    ensures { result ≡ is_blank_line line.now }
+    ensures value { result ≡ is_blank_line line.now }
+    ensures blank { (types : List DataSet) (now interval : ℕ) →
+        IsTrue result ↔ (meaning types now interval line.now ≡ Ok Command.Blank) }
 {
     line.len() <= LINE_LIMIT && are_blank(without_return(line))
 }
@@ -63,7 +67,8 @@ fn put_known(
     now: u64,
     interval: u64,
 ) -> Result<Command, LineFault>
-    ensures { Gives (λ command. command) line_fault result (at_moment now interval (put_known id sources.now options.now values.now)) }
+    ensures { GivesAt now interval result
+        (put_known id sources.now options.now values.now) }
 {
     let interval = read_interval(options, interval)?;
     let lists = read_lists(alloc, sources, values, id, now, interval)?;
@@ -81,7 +86,8 @@ fn put_parts(
     now: u64,
     interval: u64,
 ) -> Result<Command, LineFault>
-    ensures { Gives (λ command. command) line_fault result (at_moment now interval (put_parts types.now name.now options.now values.now)) }
+    ensures { GivesAt now interval result
+        (put_parts types.now name.now options.now values.now) }
 {
     if values.is_empty() {
         return Err(LineFault::MissingArgument);
@@ -109,7 +115,7 @@ fn put_val(
     now: u64,
     interval: u64,
 ) -> Result<Command, LineFault>
-    ensures { Gives (λ command. command) line_fault result (at_moment now interval (put_val types.now arguments.now)) }
+    ensures { GivesAt now interval result (put_val types.now arguments.now) }
 {
     let Some((name, more)) = arguments.split_first() else {
         return Err(LineFault::MissingArgument);
@@ -128,7 +134,7 @@ fn put_val(
 
 #[tactic(auto, unfolding(crate::specs::Meaning::get_val))]
 fn get_val(alloc: Global, arguments: &[Word], now: u64, interval: u64) -> Result<Command, LineFault>
-    ensures { Gives (λ command. command) line_fault result (at_moment now interval (get_val arguments.now)) }
+    ensures { GivesAt now interval result (get_val arguments.now) }
 {
     let Some((name, more)) = arguments.split_first() else {
         return Err(LineFault::MissingArgument);
@@ -160,7 +166,7 @@ fn read_words(
     now: u64,
     interval: u64,
 ) -> Result<Command, LineFault>
-    ensures { Gives (λ command. command) line_fault result (at_moment now interval (request_of_words types.now words.now)) }
+    ensures { GivesAt now interval result (request_of_words types.now words.now) }
 {
     let Some((name, arguments)) = words.split_first() else {
         return Err(LineFault::UnknownCommand);
@@ -186,7 +192,7 @@ fn read_text(
     now: u64,
     interval: u64,
 ) -> Result<Command, LineFault>
-    ensures { Gives (λ command. command) line_fault result (at_moment now interval (request_of_text types.now text.now)) }
+    ensures { GivesAt now interval result (request_of_text types.now text.now) }
 {
     if are_blank(text) {
         return Ok(Command::Blank);
@@ -199,11 +205,11 @@ fn read_text(
 }
 
 impl Command {
-    /// The command of a line without its newline, at a moment and with the global interval, both in units of 2^-30 s, as
-    /// in collectd-unixsock(5).
+    /// The command of a line without its newline, at a moment and with the global interval, both in
+    /// 2^-30 s, as in collectd-unixsock(5).
     ///
-    /// Of several faults the first in the order of `LineFault` is given. Whether a line is refused, and why, depends on
-    /// neither the moment nor the global interval.
+    /// Of several faults the first in the order of `LineFault` is given. Whether a line is refused,
+    /// and why, depends on neither the moment nor the global interval.
     #[tactic(auto, unfolding(crate::specs::Meaning::request_of))]
     pub fn read(
         alloc: Global,
@@ -212,9 +218,13 @@ impl Command {
         now: u64,
         interval: u64,
     ) -> Result<Command, LineFault>
-        ensures meaning { Gives (λ command. command) line_fault result (meaning types.now now interval line.now) }
-        ensures same_fault { IfErr result (λ e. (later other : ℕ) → Refuses (line_fault e) (meaning types.now later other line.now)) }
-        ensures no_fault { OnOk result ((later other : ℕ) → IsOk (meaning types.now later other line.now)) }
+        ensures meaning { Gives (λ command. command) line_fault result
+            (meaning types.now now interval line.now) }
+        ensures same_fault { IfErr result (λ e. (later other : ℕ) →
+            Refuses (line_fault e) (meaning types.now later other line.now)) }
+        ensures same_command { IfOk result (λ command. (later other : ℕ) →
+            IsOkAnd (meaning types.now later other line.now) (IsSameButTimes command)) }
+        ensures too_long { cut line.now ≡ None → result ≡ Err LineFault.LineTooLong }
         ensures fits { IfOk result (λ command. ListsFit types.now command) }
     {
         if line.len() > LINE_LIMIT {

@@ -1,4 +1,4 @@
-// Why a line is refused.
+//! Why a line is refused.
 ghost use Rattle.std.specs.Prelude.{◌≡◌};
 ghost use Rattle.cd_sock.specs.declared.fault.LineFault.TheVariants as faults;
 
@@ -6,7 +6,8 @@ use cd_text::WordFault;
 use cd_value::{IdFault, Memory};
 use std::alloc::{AllocError, AllocFailed};
 
-/// Why a line is refused, in the order in which the first is given; collectd-unixsock(5) says what a line may be.
+/// Why a line is refused, in the order in which the first is given; collectd-unixsock(5) says what
+/// a line may be.
 #[derive(Clone, Copy, Debug, PartialEq, Eq)]
 pub enum LineFault {
     /// The line has more than `LINE_LIMIT` bytes, a carriage return at its end among them.
@@ -25,7 +26,8 @@ pub enum LineFault {
     UnknownType,
     /// PUTVAL has an option other than `interval`, or GETVAL or LISTVAL a word too many.
     BadOption,
-    /// A time is neither `N` nor a time below 2^34 seconds, or an interval isn't such a time or is 0.
+    /// A time is neither `N` nor a time below `SECONDS_END` seconds, or an interval isn't such a
+    /// time or is 0.
     BadTime,
     /// A value word of PUTVAL hasn't as many values as the type has sources.
     WrongNumberOfValues,

@@ -1,5 +1,11 @@
-//! The lines of collectd's Unix socket, as in collectd-unixsock(5): cut from a stream of bytes, read as commands, and
-//! answered.
+//! The lines of collectd's Unix socket, as in collectd-unixsock(5): cut from a stream of bytes, read
+//! as commands, and answered. It stands on `cd_types` for the types of values, on `cd_text` for words
+//! and numbers, on `cd_value` and `cd_reading`, and takes no handle.
+//!
+//! Read first `specs/Lines.antt` (the lines of a stream in any pieces), `specs/Meaning.antt` (what a
+//! line asks for) and `specs/Replies.antt`. A `LineCutter` keeps bytes of one line, and no more than
+//! tell whether it is too long. Begin a change at `command.rt`, which reads a line, or at `reply.rt`,
+//! which prints its reply.
 #![tactic(auto)]
 
 mod arguments;

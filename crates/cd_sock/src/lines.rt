@@ -1,4 +1,5 @@
-//! The lines of a stream of bytes, whatever the pieces in which it comes, as in collectd-unixsock(5).
+//! The lines of a stream of bytes, whatever the pieces in which it comes, as in
+//! collectd-unixsock(5).
 ghost use Rattle.std.specs.Prelude.{◌≡◌, ◌≤◌, ◌++◌, [], IfOk, IsOk, IsSome, OnOk, OnErr, List, Option, map, take, ℕ};
 ghost use Rattle.std.specs.List.{position, concat};
 ghost use Rattle.std.specs.Option.{option_map, option_to_list};
@@ -26,8 +27,8 @@ pub enum Line<'a> {
     TooLong,
 }
 
-/// Cuts a stream of bytes into lines. It keeps what came since the last newline, of which contracts see what a line
-/// shows: its bytes, or that it is too long.
+/// Cuts a stream of bytes into lines. It keeps what came since the last newline, of which contracts
+/// see what a line shows: its bytes, or that it is too long.
 #[derive(Drop)]
 pub struct LineCutter {
     /// What came since the last newline, but no more than `HELD_LIMIT` bytes.
@@ -101,20 +102,21 @@ fn end_line<'a>(held: &mut Vec<u8>, last: &'a [u8]) -> Result<Line<'a>, Memory>
     Ok(Line::Whole(CowSlice::Owned(take_out(held))))
 }
 
-/// The line of the last bytes of a stream.
+/// The line of the last bytes of a stream, which has no newline.
 fn last_line(held: &mut Vec<u8>) -> Option<Line<'static>>
     requires { vec_len held.old ≤ HELD_LIMIT }
-    ensures line { option_to_list (option_map content result) ≡ map cut (if_not_empty held.old.items) }
+    ensures line { option_to_list (option_map content result)
+        ≡ map cut (if_not_empty held.old.items) }
     ensures none { held.new.items ≡ [] }
 {
     if held.is_empty() {
         return None;
     }
-    if held.len() == HELD_LIMIT {
-        held.clear();
+    let bytes = take_out(held);
+    if bytes.len() > LINE_LIMIT {
         return Some(Line::TooLong);
     }
-    Some(Line::Whole(CowSlice::Owned(take_out(held))))
+    Some(Line::Whole(CowSlice::Owned(bytes)))
 }
 
 impl LineCutter {
@@ -127,13 +129,15 @@ impl LineCutter {
         }
     }
 
-    /// Uses a piece of the stream up to and with its first newline, and gives the line that this ends. The first number
-    /// says how many bytes were used: all where the piece has no newline, and then no line is given. A line that stands
-    /// whole in the piece takes no memory.
+    /// Uses a piece of the stream up to and with its first newline, and gives the line that this
+    /// ends. The number says how many bytes were used: all where the piece has no newline, and then
+    /// no line is given. A line that stands whole in the piece takes no memory.
     pub fn take<'a>(&mut self, piece: &'a [u8]) -> Result<(usize, Option<Line<'a>>), Memory>
-        ensures ok { IfOk result (λ r. Takes self.old piece.now r.0 (option_map content r.1) self.new) }
+        ensures ok { IfOk result (λ r.
+            Takes self.old piece.now r.0 (option_map content r.1) self.new) }
         ensures err { OnErr result (self.new ≡ self.old) }
-        ensures in_piece { self.old ≡ Some [] → IsSome (position is_newline piece.now) → IsOk result }
+        ensures in_piece { self.old ≡ Some [] → IsSome (position is_newline piece.now) →
+            IsOk result }
     {
         match place_of_newline(piece) {
             Some(place) => {
@@ -147,7 +151,7 @@ impl LineCutter {
         }
     }
 
-    /// Gives the last line, where it has bytes but no newline, and is then before the first byte of a stream.
+    /// Gives the last line, where it has bytes but no newline. The next byte then begins a stream.
     pub fn finish(&mut self) -> Option<Line<'static>>
         ensures { Finishes self.old (option_map content result) self.new }
     {
@@ -155,9 +159,10 @@ impl LineCutter {
     }
 }
 
-/// Whatever the pieces in which a stream comes, the lines that `take` and then `finish` give are those of the pieces joined.
+/// Whatever the pieces in which a stream comes, the lines that `take` and then `finish` give are
+/// those of the pieces joined.
 pub fn cut_in_any_pieces()
-    ensures { (pieces : List (List ℕ)) (first last end : Cut) (given : List Cut) (line : Option Cut)
-        → HasCut [] [] first → TakesAll pieces first given last → Finishes last line end
-        → given ++ option_to_list line ≡ cut_lines (concat pieces) }
+    ensures { (pieces : List (List ℕ)) (first last end : Cut) (given : List Cut) →
+        (line : Option Cut) → HasCut [] [] first → TakesAll pieces first given last →
+        Finishes last line end → given ++ option_to_list line ≡ cut_lines (concat pieces) }
 {}

@@ -1,4 +1,4 @@
-// The value lists of PUTVAL.
+//! The value lists of PUTVAL.
 ghost use Rattle.std.specs.Prelude.{◌≡◌, IfOk, option_map};
 ghost use Rattle.std.specs.List.{list_all};
 ghost use Rattle.cd_reading.specs.Gives.{Gives};
@@ -21,7 +21,8 @@ fn earlier_lists(
     now: u64,
     interval: u64,
 ) -> Result<Option<Vec<ValueList>>, Memory>
-    ensures { IfOk result (λ lists. option_map (λ v. v.items) lists ≡ lists_of sources.now id.now now interval words.now) }
+    ensures { IfOk result (λ lists. option_map (λ v. v.items) lists
+        ≡ lists_of sources.now id.now now interval words.now) }
 {
     let mut lists = Vec::with_capacity(alloc, words.len() + 1)?;
     for word in words {
@@ -34,8 +35,8 @@ fn earlier_lists(
     Ok(Some(lists))
 }
 
-/// The lists of one value word or more; none where a word has a fault. The last list takes the identifier, and each
-/// other one a copy.
+/// The lists of one value word or more; none where a word has a fault. The last list takes the
+/// identifier, and each other one a copy.
 fn try_lists(
     alloc: Global,
     sources: &[DataSource],
@@ -93,7 +94,8 @@ pub fn read_lists(
     now: u64,
     interval: u64,
 ) -> Result<Lists, LineFault>
-    ensures { Gives (λ lists. lists) line_fault result (lists_or_fault sources.now id now interval words.now) }
+    ensures { Gives (λ lists. lists) line_fault result
+        (lists_or_fault sources.now id now interval words.now) }
 {
     match try_lists(alloc, sources, words, id, now, interval)? {
         Some(lists) => Ok(lists),

@@ -1,11 +1,11 @@
-// Replies to lines.
+//! Replies to lines.
 ghost use Rattle.std.specs.Prelude.{◌≡◌, ◌++◌, ◌<◌, ◌^◌, IfOk, OnOk, length, string_bytes, option_copied};
 ghost use Rattle.std.specs.List.{flat_map};
 ghost use Rattle.cd_sock.specs.Framing.{HasPlainNames, IsFramed};
 ghost use Rattle.cd_sock.specs.Replies.{fault_text, flushed_line, with_newline, rate_line, rate_lines, rate_or_nan, reply_text, row_line, values_found};
 
 use crate::LineFault;
-use cd_value::{Memory, Names, Rate, Rates, Rows, Text};
+use cd_value::{Memory, Names, Rate, Rates, Rows, SECOND, Text};
 use std::alloc::{AllocError, Global};
 
 /// The reply to a line, as in collectd-unixsock(5).
@@ -15,7 +15,7 @@ pub enum Reply {
     Success,
     /// The names of the data sources and their rates.
     Got(Names, Rates),
-    /// The times, in units of 2^-30 s, and names of all cached lists.
+    /// The times, in 2^-30 s, and names of all cached lists.
     Listed(Rows),
     /// The line was refused.
     Fault(LineFault),
@@ -41,7 +41,8 @@ fn print_count(alloc: Global, count: usize) -> Result<String, AllocError>
 
 /// Adds the rate of a source, `NaN` where it has none.
 fn push_rate(alloc: Global, text: &mut String, rate: Option<&Rate>) -> Result<(), Memory>
-    ensures { OnOk result (string_bytes text.new ≡ string_bytes text.old ++ rate_or_nan (option_copied rate.entry)) }
+    ensures { OnOk result (string_bytes text.new
+        ≡ string_bytes text.old ++ rate_or_nan (option_copied rate.entry)) }
 {
     match rate {
         Some(rate) => text.push_str(rate.print(alloc)?.as_str())?,
@@ -57,7 +58,8 @@ fn push_source(
     name: &str,
     rate: Option<&Rate>,
 ) -> Result<(), Memory>
-    ensures { OnOk result (string_bytes text.new ≡ string_bytes text.old ++ rate_line name.now (option_copied rate.entry)) }
+    ensures { OnOk result (string_bytes text.new
+        ≡ string_bytes text.old ++ rate_line name.now (option_copied rate.entry)) }
 {
     text.push_str(name)?;
     text.push('=')?;
@@ -68,9 +70,10 @@ fn push_source(
 
 /// Adds the line of a cached list.
 fn push_row(text: &mut String, time: u64, name: &str) -> Result<(), AllocError>
-    ensures { OnOk result (string_bytes text.new ≡ string_bytes text.old ++ row_line (time, name.now)) }
+    ensures { OnOk result (string_bytes text.new
+        ≡ string_bytes text.old ++ row_line (time, name.now)) }
 {
-    let seconds = time / (1 << 30);
+    let seconds = time / SECOND;
     write!(text, "{seconds} ")?;
     text.push_str(name)?;
     text.push('\n')
@@ -78,7 +81,8 @@ fn push_row(text: &mut String, time: u64, name: &str) -> Result<(), AllocError>
 
 /// The reply with the rates of sources.
 fn print_rates(alloc: Global, names: &[Text], rates: &[Rate]) -> Result<Text, Memory>
-    ensures text { IfOk result (λ text. text ≡ values_found (length names.now) ++ rate_lines names.now rates.now) }
+    ensures text { IfOk result (λ text. text
+        ≡ values_found (length names.now) ++ rate_lines names.now rates.now) }
     ensures few { length names.now < 2 ^ 64 }
 {
     let mut text = print_count(alloc, names.len())?;
@@ -90,7 +94,8 @@ fn print_rates(alloc: Global, names: &[Text], rates: &[Rate]) -> Result<Text, Me
 
 /// The reply with the times and names of cached lists.
 fn print_rows(alloc: Global, rows: &[(u64, Text)]) -> Result<Text, Memory>
-    ensures text { IfOk result (λ text. text ≡ values_found (length rows.now) ++ flat_map row_line rows.now) }
+    ensures text { IfOk result (λ text. text
+        ≡ values_found (length rows.now) ++ flat_map row_line rows.now) }
     ensures few { length rows.now < 2 ^ 64 }
 {
     let mut text = print_count(alloc, rows.len())?;
@@ -128,9 +133,10 @@ fn fault_line(fault: LineFault) -> &'static str
     }
 }
 
-/// The text of a reply, each of its lines with a newline, as in collectd-unixsock(5): a status and a message, and then one
-/// line for each name of `Got`, and for each row of `Listed` with its time in whole seconds. A name without a rate has the
-/// value `NaN`, and a rate without a name isn't printed.
+/// The text of a reply, each of its lines with a newline, as in collectd-unixsock(5): a status and
+/// a message, and then one line for each name of `Got`, and for each row of `Listed` with its time
+/// in whole seconds. A name without a rate has the value `NaN`, and a rate without a name isn't
+/// printed.
 pub fn print_reply(alloc: Global, reply: &Reply) -> Result<Text, Memory>
     ensures text { IfOk result (λ text. text ≡ reply_text reply.now) }
     ensures framed { IfOk result (λ text. HasPlainNames reply.now → IsFramed text) }

@@ -1,12 +1,9 @@
 //! Cases worked by hand from the rules.
 use crate::{Command, Line, LineCutter, LineFault, Reply, is_blank_line, print_reply};
 use cd_types::TypesDb;
-use cd_value::{Lists, Memory, Names, Rate, Rates, Rows, Text};
+use cd_value::{Lists, Memory, Names, Rate, Rates, Rows, SECOND, Text};
 use std::alloc::Global;
 use std::test::Fail;
-
-/// A second, in units of 2^-30 s.
-const SECOND: u64 = 1_073_741_824;
 
 /// The time and interval in seconds, the name and the values of each list.
 fn shown_lists(alloc: Global, lists: &Lists) -> Result<String, Memory> {
@@ -300,8 +297,16 @@ fn prints_replies(rt: HostRuntime) -> Result<(), Fail> {
         "0 Success\n"
     );
     assert_eq!(rt;
+        print_reply(alloc, &Reply::Flushed(3, u64::MAX))?.as_str(),
+        "0 Done: 3 successful, 18446744073709551615 errors\n"
+    );
+    assert_eq!(rt;
         print_reply(alloc, &Reply::NoSuchValue)?.as_str(),
         "-1 No such value\n"
+    );
+    assert_eq!(rt;
+        print_reply(alloc, &Reply::Stopping)?.as_str(),
+        "-1 Stopping\n"
     );
     Ok(())
 }

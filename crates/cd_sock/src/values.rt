@@ -1,8 +1,8 @@
-// The value words of PUTVAL.
-ghost use Rattle.std.specs.Prelude.{◌≡◌, ◌==◌, ◌&&◌, ◌∷◌, IfOk, Option, Some, None, is_some, count_by, map, slice_index, option_copied, if◌then◌else◌};
+//! The value words of PUTVAL.
+ghost use Rattle.std.specs.Prelude.{◌≡◌, ◌==◌, ◌∷◌, IfOk, Some, None, count_by, slice_index, option_copied, if◌then◌else◌};
 ghost use Rattle.std.specs.List.{before_first, slice_split};
-ghost use Rattle.cd_sock.specs.Meaning.{list_at};
-ghost use Rattle.cd_sock.specs.Values.{change_of, count_of, has_count, has_time, is_colon, is_unknown, is_whole, level_of, reading, texts_in, time_at, value_of, values_in};
+ghost use Rattle.cd_sock.specs.Meaning.{list_of};
+ghost use Rattle.cd_sock.specs.Values.{change_of, count_of, has_count, has_time, is_colon, is_unknown, is_whole, level_of, texts_in, time_at, value_of, values_in};
 
 use crate::arguments::is_keyword;
 use cd_text::{Word, read_millionths, read_time};
@@ -67,7 +67,8 @@ fn read_value(kind: DsType, text: &str) -> Option<Value>
 /// A text before its first colon, and what stands after it where there is one.
 fn at_colon(text: &str) -> (&str, Option<&str>)
     ensures front { result.0.now ≡ before_first is_colon text.now }
-    ensures texts { slice_split is_colon text.now ≡ result.0.now ∷ texts_in (option_copied result.1) }
+    ensures texts { slice_split is_colon text.now
+        ≡ result.0.now ∷ texts_in (option_copied result.1) }
 {
     match text.split_once(':') {
         Some((front, rest)) => (front, Some(rest)),
@@ -75,7 +76,7 @@ fn at_colon(text: &str) -> (&str, Option<&str>)
     }
 }
 
-/// The time of a text, in units of 2^-30 s, where `N` is the moment.
+/// The time of a text, in 2^-30 s, where `N` is the moment.
 fn read_moment(text: &str, now: u64) -> Option<u64>
     ensures { result ≡ time_at now text.now }
 {
@@ -85,14 +86,15 @@ fn read_moment(text: &str, now: u64) -> Option<u64>
     read_time(text).ok()
 }
 
-/// The values of the texts between the colons of the rest of a word, one for each source; none where their number differs
-/// or one isn't of its source's kind.
+/// The values of the texts between the colons of the rest of a word, one for each source; none
+/// where their number differs or one isn't of its source's kind.
 fn read_values(
     alloc: Global,
     sources: &[DataSource],
     rest: Option<&str>,
 ) -> Result<Option<Values>, Memory>
-    ensures { IfOk result (λ values. values ≡ values_in sources.now (texts_in (option_copied rest.entry))) }
+    ensures { IfOk result (λ values. values
+        ≡ values_in sources.now (texts_in (option_copied rest.entry))) }
 {
     let mut values = Vec::with_capacity(alloc, sources.len())?;
     let mut left = rest;
@@ -122,7 +124,8 @@ pub fn read_list(
     now: u64,
     interval: u64,
 ) -> Result<Option<ValueList>, Memory>
-    ensures { IfOk result (λ list. list ≡ (if is_whole sources.now word.now then Some (list_at now interval id (reading sources.now word.now)) else None)) }
+    ensures { IfOk result (λ list. list ≡ (if is_whole sources.now word.now
+        then Some (list_of sources.now id now interval word.now) else None)) }
 {
     let (time, rest) = at_colon(word.text.as_str());
     let Some(time) = read_moment(time, now) else {

@@ -1,15 +1,10 @@
-use Rattle.std.proofs.Common.{◌∙◌, ap, sym, List, ℕ, Some, None, cond}
-use Rattle.cd_text.specs.declared.word.Word.{Word}
-use Rattle.cd_value.specs.declared.data.DataSource.{DataSource}
+use Rattle.std.proofs.Common.{◌∙◌, ap, sym, List, Some, None, cond}
 use Rattle.cd_value.specs.declared.data.ValueList.{ValueList}
 use Rattle.cd_value.specs.Identifier.{Fields}
-use Rattle.cd_sock.specs.Meaning.{list_at}
-use Rattle.cd_sock.specs.Values.{is_whole, reading}
+use Rattle.cd_sock.specs.Meaning.{list_of}
+use Rattle.cd_sock.specs.Values.{is_whole}
 use Rattle.cd_sock.proofs.AllOrNone.{ends, fails_at, goes_on}
 use Rattle.cd_sock.proofs.lists.earlier_lists.Goals as goal
-
-abbrev list_of : List DataSource → Fields → ℕ → ℕ → Word → ValueList
-list_of sources id now interval word = list_at now interval id (reading sources word)
 
 pub loop-word-init : goal.loop-word-init
 loop-word-init c = ap (λ (lists : List ValueList). Some lists) c.in_ok-lists.ensures.items

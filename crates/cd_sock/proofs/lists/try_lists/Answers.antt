@@ -1,16 +1,10 @@
-use Rattle.std.proofs.Common.{◌∙◌, ap, sym, List, ℕ, Option, Some, Vec, Global}
+use Rattle.std.proofs.Common.{◌∙◌, ap, sym, List, Option, Some, Vec, Global}
 use Rattle.std.specs.Prelude.{option_map}
-use Rattle.cd_text.specs.declared.word.Word.{Word}
-use Rattle.cd_value.specs.declared.data.DataSource.{DataSource}
 use Rattle.cd_value.specs.declared.data.ValueList.{ValueList}
-use Rattle.cd_value.specs.Identifier.{Fields}
-use Rattle.cd_sock.specs.Meaning.{list_at}
-use Rattle.cd_sock.specs.Values.{is_whole, reading}
+use Rattle.cd_sock.specs.Meaning.{list_of}
+use Rattle.cd_sock.specs.Values.{is_whole}
 use Rattle.cd_sock.proofs.AllOrNone.{fails_at_last, fails_before_last, with_last}
 use Rattle.cd_sock.proofs.lists.try_lists.Goals as goal
-
-abbrev list_of : List DataSource → Fields → ℕ → ℕ → Word → ValueList
-list_of sources id now interval word = list_at now interval id (reading sources word)
 
 abbrev items : Option (Vec ValueList Global) → Option (List ValueList)
 items lists = option_map (λ (v : Vec ValueList Global). v.items) lists
