@@ -63,11 +63,11 @@ module _ {S : Type 0} (serves : Cut → List ℕ → S → S → Type 0) (gives_
 
   -- it was given up
   pub line_given_up : (old new : S) (link : LinkTells) → gives_up old new → BrokeOff serves gives_up old new link link [] [] Memory
-  line_given_up old new link g = record { text = []; last = old; served = served_none serves old; gave_up = inr g; spoke = spoke_nothing link }
+  line_given_up old new link g = record { text = []; gave_up = record { last = old; served = served_none serves old; then = inr g }; spoke = spoke_nothing link }
 
   -- memory was lacking before any line
   pub none_served : (server : S) (before after : LinkTells) (heard : List ℕ) → Spoke heard [] before after → BrokeOff serves gives_up server server before after heard [] Memory
-  none_served server before after heard p = record { text = []; last = server; served = served_none serves server; gave_up = inl refl; spoke = p }
+  none_served server before after heard p = record { text = []; gave_up = record { last = server; served = served_none serves server; then = inl refl }; spoke = p }
 
   -- ---- after a part that went on
 
@@ -85,9 +85,11 @@ module _ {S : Type 0} (serves : Cut → List ℕ → S → S → Type 0) (gives_
   }
   off_then old between new before then after heard more lines most text Memory s p b = record {
     text = text ++ b.text;
-    last = b.last;
-    served = served_then serves lines most text b.text old between b.last s b.served;
-    gave_up = b.gave_up;
+    gave_up = record {
+      last = b.gave_up.last;
+      served = served_then serves lines most text b.text old between b.gave_up.last s b.gave_up.served;
+      then = b.gave_up.then;
+    };
     spoke = spoke_then heard more text b.text before then after p b.spoke;
   }
 

@@ -9,12 +9,12 @@ use Rattle.cd_io.proofs.Rises.{later_rose, rose_later}
 use Rattle.cd_io.proofs.Speaking.{spoke_nothing, spoke_then_nothing, spoke_then_said, still_ended}
 use Rattle.cd_sock.specs.Lines.{BeginsWith, Cut, HasCut, cut, cut_lines, if_not_empty, lines, unfinished, whole_lines}
 use Rattle.cd_dialogue.specs.declared.ends.DialogueFault.{DialogueFault}
-use Rattle.cd_dialogue.specs.declared.ends.DialogueFault.TheVariants.{Memory}
+use Rattle.cd_dialogue.specs.declared.ends.DialogueFault.TheVariants.{Link, Memory}
 use Rattle.cd_dialogue.specs.declared.ends.InputEnd.{InputEnd}
 use Rattle.cd_dialogue.specs.declared.ends.Step.{Step}
 use Rattle.cd_dialogue.specs.declared.ends.Step.TheVariants.{Ended, Heard, Quiet, TooLong}
-use Rattle.cd_dialogue.specs.Dialogues.{Broke, BrokeOff, Closed, Exceeded, LeftOff, ServedAll, ServesInput, Steps, Waited, WentOn, ended_in}
-use Rattle.cd_dialogue.specs.Inputs.{lines_within}
+use Rattle.cd_dialogue.specs.Dialogues.{Broke, BrokeOff, Closed, GaveUp, LeftOff, ServesInput, Steps, Waited, WentOn, ended_in}
+use Rattle.cd_dialogue.specs.Inputs.{AllServed, TooMuch, lines_within}
 use Rattle.cd_dialogue.specs.Served.{Served}
 use Rattle.cd_dialogue.proofs.Breaking.{begins_none, begins_then, none_served, off_then}
 use Rattle.cd_dialogue.proofs.Going.{went_then}
@@ -51,11 +51,20 @@ taken_first done more limit room size = elim (cases_lt limit (length (done ++ mo
       subst B (sym (within_short limit (done ++ more) short)) (subst T (sym all) (ended_first (done ++ more)))
 ]
 
+-- it broke off in the service of an input
+left : {S : Type 0} (serves : Cut → List ℕ → S → S → Type 0) (gives_up : S → S → Type 0) (old new : S) (before after : LinkTells) (limit : ℕ)
+    (fault : DialogueFault) (heard : List ℕ) (lines : List Cut) → BeginsWith (lines_within limit heard) lines
+    → BrokeOff serves gives_up old new before after heard lines fault → LeftOff serves gives_up old new before after limit fault
+left serves gives_up old new before after limit Link heard lines first b =
+    record { heard = heard; lines = lines; first = first; said = b.said; unsaid = b.unsaid; served = b.served; spoke = b.spoke; rose = b.rose }
+left serves gives_up old new before after limit Memory heard lines first b =
+    record { heard = heard; lines = lines; first = first; text = b.text; served = b.gave_up; spoke = b.spoke }
+
 -- memory was lacking before anything was heard
 pub none_heard : {S : Type 0} (serves : Cut → List ℕ → S → S → Type 0) (gives_up : S → S → Type 0) (server : S) (link : LinkTells) (limit : ℕ)
-    → LeftOff serves gives_up Memory server server link link limit
+    → LeftOff serves gives_up server server link link limit Memory
 none_heard serves gives_up server link limit =
-    record { heard = []; lines = []; first = begins_none _; broke = none_served serves gives_up server link link [] (spoke_nothing link) }
+    left serves gives_up server server link link limit Memory [] [] (begins_none _) (none_served serves gives_up server link link [] (spoke_nothing link))
 
 -- what a step did that answered so
 pub step_was : {S : Type 0} (serves : Cut → List ℕ → S → S → Type 0) (held held' : Cut) (old new : S) (before after : LinkTells) (room : ℕ) (step is : Step)
@@ -74,11 +83,11 @@ step_waited serves held held' old new before after room step (inr e) s =
 
 -- the fault that a `?` hands on
 pub handed_input : {S : Type 0} (serves : Cut → List ℕ → S → S → Type 0) (gives_up : S → S → Type 0) (old new : S) (before after : LinkTells) (limit : ℕ)
-    (r : Result InputEnd DialogueFault) (fault : DialogueFault) → IsErrAnd r (λ e. e ≡ fault) → LeftOff serves gives_up fault old new before after limit
+    (r : Result InputEnd DialogueFault) (fault : DialogueFault) → IsErrAnd r (λ e. e ≡ fault) → LeftOff serves gives_up old new before after limit fault
     → ServesInput serves gives_up old new before after limit r
 handed_input serves gives_up old new before after limit (Ok end) fault is off = absurd is
 handed_input serves gives_up old new before after limit (Err e) fault is off =
-    let L : DialogueFault → Type 0 = λ f. LeftOff serves gives_up f old new before after limit in subst L (sym is) off
+    let L : DialogueFault → Type 0 = λ f. LeftOff serves gives_up old new before after limit f in subst L (sym is) off
 
 module _ {S : Type 0} (serves : Cut → List ℕ → S → S → Type 0) (first held : Cut) (begins : HasCut [] [] first)
     (old now : S) (start link : LinkTells) (done : List ℕ) (limit room : ℕ) (size : length done + room ≡ limit)
@@ -94,7 +103,7 @@ module _ {S : Type 0} (serves : Cut → List ℕ → S → S → Type 0) (first 
       (done ++ heard, omega (arith, size, many, fits, length-append done heard), went_then serves first held held' old now new start link after done done heard heard w s)
 
   -- more came than is taken
-  pub exceeded : (held' : Cut) (new : S) (after : LinkTells) → Steps serves held held' now new link after room TooLong → Exceeded serves old new start after limit
+  pub exceeded : (held' : Cut) (new : S) (after : LinkTells) → Steps serves held held' now new link after room TooLong → TooMuch (λ lines text. Served serves lines text old new) limit start after
   exceeded held' new after (heard, long, s) =
       let all : WentOn serves first held' old new start after (done ++ heard) (done ++ take room heard)
       = went_then serves first held held' old now new start link after done done heard (take room heard) w s in
@@ -110,13 +119,11 @@ module _ {S : Type 0} (serves : Cut → List ℕ → S → S → Type 0) (first 
 
   -- it broke off in a step
   pub left_off : (gives_up : S → S → Type 0) (fault : DialogueFault) (new : S) (after : LinkTells)
-      → (heard : List ℕ) × Broke serves gives_up fault (ended_in (take room heard)) held now new link after heard → LeftOff serves gives_up fault old new start after limit
-  left_off gives_up fault new after (heard, b) = record {
-    heard = done ++ heard;
-    lines = w.lines ++ b.lines;
-    first = begins_then _ _ (w.lines ++ b.lines) (taken_first done heard limit room size) (b.first done w.lines cut_now);
-    broke = off_then serves gives_up old now new start link after done heard w.lines b.lines w.text fault w.served w.spoke b.broke;
-  }
+      → (heard : List ℕ) × Broke serves gives_up fault (ended_in (take room heard)) held now new link after heard → LeftOff serves gives_up old new start after limit fault
+  left_off gives_up fault new after (heard, b) =
+      left serves gives_up old new start after limit fault (done ++ heard) (w.lines ++ b.lines)
+      (begins_then _ _ (w.lines ++ b.lines) (taken_first done heard limit room size) (b.first done w.lines cut_now))
+      (off_then serves gives_up old now new start link after done heard w.lines b.lines w.text fault w.served w.spoke b.broke)
 
   -- ---- the end of the input
 
@@ -133,7 +140,7 @@ module _ {S : Type 0} (serves : Cut → List ℕ → S → S → Type 0) (first 
 
     -- the last line was served
     pub served_all : (held'' : Cut) (last : S) (end : LinkTells) → Closed serves held' held'' new last after end
-        → HasEnded after ⊎ Rose link.quiets after.quiets → ServedAll serves old last start end limit
+        → HasEnded after ⊎ Rose link.quiets after.quiets → AllServed (λ lines text. Served serves lines text old last) limit start end
     served_all held'' last end c ended = record {
       heard = done;
       text = w.text ++ c.text;
@@ -150,14 +157,10 @@ module _ {S : Type 0} (serves : Cut → List ℕ → S → S → Type 0) (first 
 
     -- it broke off at the last line
     pub left_off_last : (gives_up : S → S → Type 0) (fault : DialogueFault) (last : S) (end : LinkTells) → Broke serves gives_up fault cut_lines held' new last after end []
-        → LeftOff serves gives_up fault old last start end limit
-    left_off_last gives_up fault last end b = record {
-      heard = done;
-      lines = w.lines ++ b.lines;
-      first =
-          let B : List Cut → Type 0 = λ all. BeginsWith all (w.lines ++ b.lines) in
-          subst B (sym (within_short limit done (omega (arith, size)))) (b.first done w.lines cut_then);
-      broke =
-          let O : List ℕ → Type 0 = λ h. BrokeOff serves gives_up old last start end h (w.lines ++ b.lines) fault in
-          subst O (append-nil done) (off_then serves gives_up old new last start after end done [] w.lines b.lines w.text fault served_so_far spoke_so_far b.broke);
-    }
+        → LeftOff serves gives_up old last start end limit fault
+    left_off_last gives_up fault last end b =
+        let B : List Cut → Type 0 = λ all. BeginsWith all (w.lines ++ b.lines) in
+        let O : List ℕ → Type 0 = λ h. BrokeOff serves gives_up old last start end h (w.lines ++ b.lines) fault in
+        left serves gives_up old last start end limit fault done (w.lines ++ b.lines)
+        (subst B (sym (within_short limit done (omega (arith, size)))) (b.first done w.lines cut_then))
+        (subst O (append-nil done) (off_then serves gives_up old new last start after end done [] w.lines b.lines w.text fault served_so_far spoke_so_far b.broke))

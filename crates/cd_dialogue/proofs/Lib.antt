@@ -1,4 +1,5 @@
 pub mod Breaking
+pub mod Families
 pub mod Going
 pub mod Inputs
 pub mod Serving

@@ -1,5 +1,6 @@
 -- What was heard, served and said in a dialogue.
-use Rattle.std.specs.Prelude.{◌≡◌, ◌≤◌, ◌<◌, ◌⊎◌, ℕ, List, [], ◌++◌, length, map, take, Result, Ok, Err}
+use Rattle.std.specs.Prelude.{◌≡◌, ◌≤◌, ◌<◌, ◌⊎◌, ℕ, List, [], ◌++◌, length, map, take}
+use Rattle.std.specs.Prelude.{Result, Ok, Err}
 use Rattle.cd_io.specs.Causes.{Rose}
 use Rattle.cd_io.specs.Link.{LinkTells, HasEnded, Spoke}
 use Rattle.cd_sock.specs.Lines.{BeginsWith, Cut, HasCut, cut, cut_lines, whole_lines}
@@ -9,7 +10,7 @@ use Rattle.cd_dialogue.specs.declared.ends.InputEnd.{InputEnd}
 use Rattle.cd_dialogue.specs.declared.ends.InputEnd.TheVariants as ends
 use Rattle.cd_dialogue.specs.declared.ends.Step.{Step}
 use Rattle.cd_dialogue.specs.declared.ends.Step.TheVariants as steps
-use Rattle.cd_dialogue.specs.Inputs.{AllServed, TooMuch, lines_within}
+use Rattle.cd_dialogue.specs.Inputs.{AllServed, LinkLost, MemoryLacked, TooMuch}
 use Rattle.cd_dialogue.specs.Served.{Served}
 
 -- the lines that end with a newline in the bytes heard earlier and in these
@@ -18,7 +19,8 @@ ended_in bytes earlier = map cut (whole_lines (earlier ++ bytes))
 
 -- after lines that were given before, these are the first of all lines that there are
 abbrev pub AreFirst : (List ℕ → List Cut) → List Cut → Cut → Type 0
-AreFirst all lines held = (earlier : List ℕ) (given : List Cut) → HasCut earlier given held → BeginsWith (all earlier) (given ++ lines)
+AreFirst all lines held = (earlier : List ℕ) (given : List Cut)
+    → HasCut earlier given held → BeginsWith (all earlier) (given ++ lines)
 
 module _ {S : Type 0} (serves : Cut → List ℕ → S → S → Type 0) where
   -- ---- parts of a dialogue, by what it holds of an unfinished line
@@ -29,7 +31,8 @@ module _ {S : Type 0} (serves : Cut → List ℕ → S → S → Type 0) where
     pub record WentOn (heard taken : List ℕ) : Type 0 where
       pub lines : List Cut
       pub text : List ℕ
-      pub cuts : (earlier : List ℕ) (given : List Cut) → HasCut earlier given held → HasCut (earlier ++ taken) (given ++ lines) held'
+      pub cuts : (earlier : List ℕ) (given : List Cut)
+          → HasCut earlier given held → HasCut (earlier ++ taken) (given ++ lines) held'
       pub served : Served serves lines text old new
       pub spoke : Spoke heard text before after
 
@@ -41,7 +44,8 @@ module _ {S : Type 0} (serves : Cut → List ℕ → S → S → Type 0) where
 
     -- what a step did that takes no more than so many bytes
     abbrev pub Steps : ℕ → Step → Type 0
-    Steps room (steps.Heard count) = (heard : List ℕ) × (length heard ≡ count) × (0 < count) × (count ≤ room) × WentOn heard heard
+    Steps room (steps.Heard count) =
+        (heard : List ℕ) × (length heard ≡ count) × (0 < count) × (count ≤ room) × WentOn heard heard
     Steps room steps.TooLong = (heard : List ℕ) × (room < length heard) × WentOn heard (take room heard)
     Steps room steps.Ended = Waited × HasEnded after
     Steps room steps.Quiet = Waited × Rose before.quiets after.quiets
@@ -50,22 +54,20 @@ module _ {S : Type 0} (serves : Cut → List ℕ → S → S → Type 0) where
     pub record Closed : Type 0 where
       pub lines : List Cut
       pub text : List ℕ
-      pub last : (heard : List ℕ) (given : List Cut) → HasCut heard given held → given ++ lines ≡ cut_lines heard
+      pub last : (heard : List ℕ) (given : List Cut)
+          → HasCut heard given held → given ++ lines ≡ cut_lines heard
       pub served : Served serves lines text old new
       pub spoke : Spoke [] text before after
-
-  -- ---- the service of a whole input, of which no more than so many bytes are taken
-
-  module _ (old new : S) (before after : LinkTells) (limit : ℕ) where
-    abbrev pub ServedAll : Type 0
-    ServedAll = AllServed (λ lines text. Served serves lines text old new) limit before after
-
-    abbrev pub Exceeded : Type 0
-    Exceeded = TooMuch (λ lines text. Served serves lines text old new) limit before after
 
   -- ---- where a dialogue broke off
 
   module _ (gives_up : S → S → Type 0) where
+    -- the lines were served with these replies, and then the server may have given up the next one
+    pub record GaveUp (old new : S) (lines : List Cut) (text : List ℕ) : Type 0 where
+      pub last : S
+      pub served : Served serves lines text old last
+      pub then : (new ≡ last) ⊎ gives_up last new
+
     module _ (old new : S) (before after : LinkTells) (heard : List ℕ) (lines : List Cut) where
       -- the link failed: the lines were served, and of their replies the beginning was said
       pub record LostLink : Type 0 where
@@ -75,33 +77,33 @@ module _ {S : Type 0} (serves : Cut → List ℕ → S → S → Type 0) where
         pub spoke : Spoke heard said before after
         pub rose : Rose before.faults after.faults
 
-      -- memory was lacking: the lines were served and their replies said, and the server may have given up the next line
+      -- memory was lacking: the lines were served and their replies said, and the server may have given up the next
+      -- line
       pub record LackedMemory : Type 0 where
         pub text : List ℕ
-        pub last : S
-        pub served : Served serves lines text old last
-        pub gave_up : (new ≡ last) ⊎ gives_up last new
+        pub gave_up : GaveUp old new lines text
         pub spoke : Spoke heard text before after
 
       abbrev pub BrokeOff : DialogueFault → Type 0
       BrokeOff faults.Link = LostLink
       BrokeOff faults.Memory = LackedMemory
 
-    module _ (fault : DialogueFault) where
-      -- in a part of a dialogue: these bytes were heard, and the lines that were served are the first of all these
-      pub record Broke (all : List ℕ → List Cut) (held : Cut) (old new : S) (before after : LinkTells) (heard : List ℕ) : Type 0 where
-        pub lines : List Cut
-        pub first : AreFirst all lines held
-        pub broke : BrokeOff old new before after heard lines fault
+    -- in a part of a dialogue: these bytes were heard, and the lines that were served are the first of all these
+    pub record Broke (fault : DialogueFault) (all : List ℕ → List Cut) (held : Cut) (old new : S)
+        (before after : LinkTells) (heard : List ℕ) : Type 0 where
+      pub lines : List Cut
+      pub first : AreFirst all lines held
+      pub broke : BrokeOff old new before after heard lines fault
 
-      -- in the service of a whole input: the lines that were served are the first of those that are served of it
-      pub record LeftOff (old new : S) (before after : LinkTells) (limit : ℕ) : Type 0 where
-        pub heard : List ℕ
-        pub lines : List Cut
-        pub first : BeginsWith (lines_within limit heard) lines
-        pub broke : BrokeOff old new before after heard lines fault
+    -- ---- the service of a whole input, of which no more than so many bytes are taken
 
-    abbrev pub ServesInput : S → S → LinkTells → LinkTells → ℕ → Result InputEnd DialogueFault → Type 0
-    ServesInput old new before after limit (Ok ends.Ended) = ServedAll old new before after limit
-    ServesInput old new before after limit (Ok ends.TooLong) = Exceeded old new before after limit
-    ServesInput old new before after limit (Err fault) = LeftOff fault old new before after limit
+    module _ (old new : S) (before after : LinkTells) (limit : ℕ) where
+      -- it broke off
+      abbrev pub LeftOff : DialogueFault → Type 0
+      LeftOff faults.Link = LinkLost (λ lines text. Served serves lines text old new) limit before after
+      LeftOff faults.Memory = MemoryLacked (λ lines text. GaveUp old new lines text) limit before after
+
+      abbrev pub ServesInput : Result InputEnd DialogueFault → Type 0
+      ServesInput (Ok ends.Ended) = AllServed (λ lines text. Served serves lines text old new) limit before after
+      ServesInput (Ok ends.TooLong) = TooMuch (λ lines text. Served serves lines text old new) limit before after
+      ServesInput (Err fault) = LeftOff fault

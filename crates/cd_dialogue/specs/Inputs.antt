@@ -7,7 +7,8 @@ use Rattle.cd_sock.specs.Lines.{BeginsWith, Cut, cut, cut_lines, whole_lines}
 -- the lines that are served of an input of which no more than so many bytes are taken: where more came, just those that
 -- end within the limit
 abbrev pub lines_within : ℕ → List ℕ → List Cut
-lines_within limit heard = if nat_lt limit (length heard) then map cut (whole_lines (take limit heard)) else cut_lines heard
+lines_within limit heard =
+    if nat_lt limit (length heard) then map cut (whole_lines (take limit heard)) else cut_lines heard
 
 module _ (holds : List Cut → List ℕ → Type 0) (limit : ℕ) (before after : LinkTells) where
   -- all lines were served, and their replies said; nothing is left, or nothing came for a while

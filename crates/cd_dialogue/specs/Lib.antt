@@ -1,3 +1,3 @@
 pub mod Dialogues
-pub mod Served
 pub mod Inputs
+pub mod Served

@@ -47,9 +47,9 @@ impl Dialogue {
         })
     }
 
-    /// Hears what comes next, serves the lines that end in it, and says each reply in one piece, offering again what
-    /// wasn't taken. No more than `room` bytes are taken; where more came, what is beyond them is lost. At a quiet and at
-    /// the end the unfinished line stays held.
+    /// Hears what comes next, serves the lines that end in it, and says each reply in one piece, offering again
+    /// what wasn't taken. No more than `room` bytes are taken; where more came, what is beyond them is lost. At a
+    /// quiet and at the end the unfinished line stays held. A session passes `usize::MAX` as its room.
     pub fn step<L: Link, S: Server>(
         &mut self,
         alloc: Global,

@@ -5,9 +5,9 @@ use crate::{Dialogue, DialogueFault, InputEnd, Server, Step};
 use cd_io::Link;
 use std::alloc::Global;
 
-/// Serves the lines of a whole input, the last one without a newline among them, and says each reply. A quiet counts as
-/// the end of the input. No more than `limit` bytes are taken: where more come, just the lines that end within the limit
-/// are served.
+/// Serves the lines of a whole input, the last one without a newline among them, and says each reply. A quiet
+/// counts as the end of the input. No more than `limit` bytes are taken: where more come, just the lines that end
+/// within the limit are served.
 pub fn serve_all<L: Link, S: Server>(
     alloc: Global,
     link: &mut L,

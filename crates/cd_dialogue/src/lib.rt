@@ -1,9 +1,10 @@
 //! The dialogue with a peer over a link: what it sends is cut into lines, a server serves each, and its reply is said.
 //!
-//! It stands on `cd_io` (links), `cd_sock` (lines) and `cd_value`, and takes no handle. `specs/Served.antt` says what a
-//! server did for lines in order, `specs/Dialogues.antt` what a step and the service of a whole input promise. The
-//! invariant: the lines that end in what was heard were served in order and their replies said, and the rest is held. A
-//! change begins in `dialogue.rt`; a new kind of service is an `impl Server` in a crate above.
+//! It stands on `cd_io` (links), `cd_sock` (lines) and `cd_value`, and takes no handle. `specs/Served.antt` says what
+//! a server did for lines in order, `specs/Dialogues.antt` what a step does, and `specs/Inputs.antt` what the service
+//! of a whole input promises. The invariant: the lines that end in what was heard were served in order and their
+//! replies said, and the rest is held. A change begins in `dialogue.rt`; a new kind of service is an `impl Server` in
+//! a crate above.
 #![tactic(auto)]
 
 mod dialogue;

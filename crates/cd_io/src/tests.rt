@@ -26,20 +26,30 @@ impl Write for Broken {
     }
 }
 
-/// A writer that takes a byte at a time.
+/// A writer that takes a byte at a time, and nothing more before it was flushed.
 #[derive(Drop)]
-struct ByteByByte<'a>(&'a mut Vec<u8>);
+struct ByteByByte<'a> {
+    taken: &'a mut Vec<u8>,
+    pending: bool,
+}
 
 impl Write for ByteByByte<'_> {
     fn write(&mut self, buf: &[u8]) -> io::Result<usize> {
+        if self.pending {
+            return Ok(0);
+        }
         let first = &buf[..buf.len().min(1)];
-        match self.0.extend_from_slice(first) {
-            Ok(()) => Ok(first.len()),
+        match self.taken.extend_from_slice(first) {
+            Ok(()) => {
+                self.pending = true;
+                Ok(first.len())
+            }
             Err(_) => Err(io::Error::from(ErrorKind::OutOfMemory)),
         }
     }
 
     fn flush(&mut self) -> io::Result<()> {
+        self.pending = false;
         Ok(())
     }
 }
@@ -115,7 +125,11 @@ fn streams_are_a_link(rt: HostRuntime) {
 #[test]
 fn short_writes_lose_nothing(rt: HostRuntime) -> Result<(), Fail> {
     let mut taken = Vec::new(rt.alloc());
-    let mut link = Streams::new(b"".as_slice(), ByteByByte(&mut taken));
+    let writer = ByteByByte {
+        taken: &mut taken,
+        pending: false,
+    };
+    let mut link = Streams::new(b"".as_slice(), writer);
     assert_eq!(rt; link.say(b"abc"), Ok(1));
     assert_eq!(rt; say_all(&mut link, b"0 Success\n"), Ok(()));
     assert_eq!(rt; taken.as_slice(), b"a0 Success\n".as_slice());
@@ -126,14 +140,15 @@ fn short_writes_lose_nothing(rt: HostRuntime) -> Result<(), Fail> {
 fn the_real_world_goes_on(rt: HostRuntime) -> Result<(), Fail> {
     let mut world = RealWorld::new(rt);
     let mut clock = world.clock();
+    let mut dice = world.dice();
     let before = clock.now();
     clock.pause();
     let later = clock.fork().now();
     assert!(rt; before >> 30 > 1_700_000_000);
     assert!(rt; later.saturating_sub(before) >> 26 > 0);
-    let mut dice = world.dice();
     let word = dice.fork().word();
     assert_eq!(rt; dice.word(), word);
     assert!(rt; dice.word() != word);
+    assert!(rt; world.dice().word() != word);
     Ok(())
 }
