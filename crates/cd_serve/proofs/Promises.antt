@@ -21,6 +21,7 @@ use Rattle.cd_dialogue.specs.Served.{Served}
 use Rattle.cd_dialogue.specs.Dialogues.{ServesInput}
 use Rattle.cd_dialogue.specs.Inputs.{MemoryLacked, lines_within}
 use Rattle.cd_dialogue.proofs.Breaking.{begins_none}
+use Rattle.cd_dialogue.proofs.Families.{AllServed-weaker, LinkLost-weaker, MemoryLacked-weaker, TooMuch-weaker}
 use Rattle.cd_io.proofs.Speaking.{spoke_nothing}
 use Rattle.cd_transcript.specs.Transcripts.{line_says, IsTranscript, nothing}
 use Rattle.cd_transcript.specs.LineRuns.{OnShelf, none}
@@ -141,41 +142,16 @@ module _ {D : Type 0} (view : D → Seen) (shelf : List OnShelf) (pairs : Pairs)
       has_served view (opened shelf pairs) lines text [] [] first new s (subst H (sym is) (has_begun shelf pairs few))
 
   module _ (gives_up : D → D → Type 0) (before after : LinkTells) (last : D) where
+    -- the lines were served in a run
+    ran : (lines : List Cut) (text : List ℕ) → Served (Serves view) lines text first last → HasRun shelf (view last).shelf (view last).given pairs lines text
+    ran lines text s = has_run shelf pairs lines text (view last) (served_from lines text last s)
+
     pub run_promised : (result : Result InputEnd DialogueFault) → ServesInput (Serves view) gives_up first last before after INPUT_LIMIT result
         → Promises shelf (view last).shelf (view last).given pairs before after (end_of result)
-    run_promised (Ok input.Ended) s = record {
-      heard = s.heard;
-      text = s.text;
-      short = s.short;
-      served = has_run shelf pairs _ _ (view last) (served_from _ _ last s.served);
-      spoke = s.spoke;
-      ended = s.ended;
-    }
-    run_promised (Ok input.TooLong) s = record {
-      heard = s.heard;
-      text = s.text;
-      long = s.long;
-      served = has_run shelf pairs _ _ (view last) (served_from _ _ last s.served);
-      spoke = s.spoke;
-    }
-    run_promised (Err faults.Link) s = record {
-      heard = s.heard;
-      lines = s.lines;
-      first = s.first;
-      said = s.broke.said;
-      unsaid = s.broke.unsaid;
-      served = has_run shelf pairs _ _ (view last) (served_from _ _ last s.broke.served);
-      spoke = s.broke.spoke;
-      rose = s.broke.rose;
-    }
-    run_promised (Err faults.Memory) s = record {
-      heard = s.heard;
-      lines = s.lines;
-      first = s.first;
-      text = s.broke.text;
-      served = has_come_so_far shelf pairs _ _ (view s.broke.last) (served_from _ _ s.broke.last s.broke.served);
-      spoke = s.broke.spoke;
-    }
+    run_promised (Ok input.Ended) s = AllServed-weaker _ _ ran INPUT_LIMIT before after s
+    run_promised (Ok input.TooLong) s = TooMuch-weaker _ _ ran INPUT_LIMIT before after s
+    run_promised (Err faults.Link) s = LinkLost-weaker _ _ ran INPUT_LIMIT before after s
+    run_promised (Err faults.Memory) s = MemoryLacked-weaker _ _ (λ lines text g. has_come_so_far shelf pairs lines text (view g.last) (served_from lines text g.last g.served)) INPUT_LIMIT before after s
 
     -- each object is back in its place
     pub run_back : ((old new : D) → gives_up old new → places (view new).shelf ≡ places (view old).shelf)
@@ -186,9 +162,9 @@ module _ {D : Type 0} (view : D → Seen) (shelf : List OnShelf) (pairs : Pairs)
         back : (r : Result InputEnd DialogueFault) → ServesInput (Serves view) gives_up first last before after INPUT_LIMIT r → places (view last).shelf ≡ places (view first).shelf
         back (Ok input.Ended) s = keeps_places view _ _ first last s.served
         back (Ok input.TooLong) s = keeps_places view _ _ first last s.served
-        back (Err faults.Link) s = keeps_places view _ _ first last s.broke.served
-        back (Err faults.Memory) s = ⊎_elim (λ e. ap (λ (d : D). places (view d).shelf) e) (λ g. keeps s.broke.last last g) s.broke.gave_up
-            ∙ keeps_places view _ _ first s.broke.last s.broke.served
+        back (Err faults.Link) s = keeps_places view _ _ first last s.served
+        back (Err faults.Memory) s = ⊎_elim (λ e. ap (λ (d : D). places (view d).shelf) e) (λ g. keeps s.served.last last g) s.served.then
+            ∙ keeps_places view _ _ first s.served.last s.served.served
 
     pub run_completed : (result : Result InputEnd DialogueFault) → ServesInput (Serves view) gives_up first last before after INPUT_LIMIT result
         → (Rose before.faults after.faults → ⊥) → IsWithin before after → (end_of result ≡ ends.Done) ⊎ (end_of result ≡ ends.Memory)
@@ -197,7 +173,7 @@ module _ {D : Type 0} (view : D → Seen) (shelf : List OnShelf) (pairs : Pairs)
         let short : length s.heard ≤ INPUT_LIMIT = heard_within s.heard before after within s.spoke.left in
         let long = s.long in
         absurd (omega (arith, short, long))
-    run_completed (Err faults.Link) s fine within = absurd (fine s.broke.rose)
+    run_completed (Err faults.Link) s fine within = absurd (fine s.rose)
     run_completed (Err faults.Memory) s fine within = inr refl
 
     pub run_promised_as : (result : Result InputEnd DialogueFault) → ServesInput (Serves view) gives_up first last before after INPUT_LIMIT result
