@@ -13,7 +13,7 @@ use Rattle.cd_dialogue.specs.declared.ends.DialogueFault.TheVariants.{Link, Memo
 use Rattle.cd_dialogue.specs.declared.ends.InputEnd.{InputEnd}
 use Rattle.cd_dialogue.specs.declared.ends.Step.{Step}
 use Rattle.cd_dialogue.specs.declared.ends.Step.TheVariants.{Ended, Heard, Quiet, TooLong}
-use Rattle.cd_dialogue.specs.Dialogues.{Broke, BrokeOff, Closed, GaveUp, LeftOff, ServesInput, Steps, Waited, WentOn, ended_in}
+use Rattle.cd_dialogue.specs.Dialogues.{Broke, BrokeOff, Closed, LeftOff, ServesInput, Steps, Waited, WentOn, ended_in}
 use Rattle.cd_dialogue.specs.Inputs.{AllServed, TooMuch, lines_within}
 use Rattle.cd_dialogue.specs.Served.{Served}
 use Rattle.cd_dialogue.proofs.Breaking.{begins_none, begins_then, none_served, off_then}
