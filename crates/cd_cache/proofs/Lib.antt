@@ -1,4 +1,2 @@
-pub mod Distinct
-pub mod Places
-pub mod RowOrder
-pub mod Ties
+pub mod Names
+pub mod Updates

@@ -1,3 +1,4 @@
 pub mod Cache
-pub mod Names
+pub mod Rates
 pub mod Rows
+pub mod Renewal

@@ -1,20 +1,13 @@
--- The rows of the cache: the time and the name of each entry, sorted by the names' bytes.
-use Rattle.std.specs.Prelude.{ℕ, Bool, true, false, if◌then◌else◌, List, [], ◌∷◌}
-use Rattle.std.specs.Cmp.Lexicographic.{slice_cmp}
-use Rattle.std.specs.Ordering.{nat_cmp}
-use Rattle.std.specs.declared.cmp.Ordering.TheVariants.{Less, Equal, Greater}
+-- The rows of the cache: the time and the name of each entry, in the order of the names' bytes.
+use Rattle.std.specs.Prelude.{ℕ, List, map}
 use Rattle.cd_cache.specs.declared.entry.CacheEntry.{CacheEntry}
-use Rattle.cd_cache.specs.Cache.{name_in}
+use Rattle.cd_cache.specs.Cache.{CacheMap}
 
--- a name doesn't come after another, byte by byte
-abbrev pub is_sorted_before : List ℕ → List ℕ → Bool
-is_sorted_before name other = elim (slice_cmp nat_cmp name other) [ Less ↦ true | Equal ↦ true | Greater ↦ false ]
+abbrev pub row_of : List ℕ × CacheEntry → ℕ × List ℕ
+row_of pair = (pair.1.list.time, pair.0)
 
--- a row in its place among sorted ones
-abbrev pub inserted : ℕ × List ℕ → List (ℕ × List ℕ) → List (ℕ × List ℕ)
-inserted row [] = row ∷ []
-inserted row (other ∷ rows) = if is_sorted_before row.1 other.1 then row ∷ other ∷ rows else other ∷ inserted row rows
+abbrev pub names_of : List (ℕ × List ℕ) → List (List ℕ)
+names_of rows = map (λ row. row.1) rows
 
-abbrev pub rows_of : List CacheEntry → List (ℕ × List ℕ)
-rows_of [] = []
-rows_of (entry ∷ entries) = inserted (entry.list.time, name_in entry) (rows_of entries)
+abbrev pub rows_of : CacheMap → List (ℕ × List ℕ)
+rows_of cache = map row_of cache.entries

@@ -1,8 +1,8 @@
-// What the cache keeps.
+//! What the cache keeps.
 use cd_value::{Rates, ValueList};
 
-/// The last value list of a name, its rates against the list before it, and the moment of its arrival, in units of
-/// 2^-30 s.
+/// The last value list of a name, its rates against the list before it, and the moment of its
+/// arrival in 2^-30 s.
 #[derive(Drop)]
 pub struct CacheEntry {
     pub list: ValueList,

@@ -1,20 +1,10 @@
-// The rates of a list against the list before it.
+//! The rates of a list against the list before it.
 ghost use Rattle.std.specs.Prelude.{◌≡◌, IfOk, option_copied};
-ghost use Rattle.cd_cache.specs.Cache.{first_rates, is_old, later_rates, rates_against};
+ghost use Rattle.cd_cache.specs.Rates.{first_rates, later_rates, rates_against};
 
 use crate::CacheEntry;
 use cd_value::{DataSet, DataSource, Memory, Rate, Rates, Value, ValueList};
 use std::alloc::{AllocError, Global};
-
-/// Whether the cached list is as new as the new one, or newer.
-pub fn is_old(before: Option<&CacheEntry>, list: &ValueList) -> bool
-    ensures { result ≡ is_old (option_copied before.entry) list.now }
-{
-    match before {
-        Some(entry) => list.time <= entry.list.time,
-        None => false,
-    }
-}
 
 /// The rates of a list against the one that is cached under its name.
 pub fn rates_against(
@@ -23,7 +13,8 @@ pub fn rates_against(
     before: Option<&CacheEntry>,
     list: &ValueList,
 ) -> Result<Rates, Memory>
-    ensures { IfOk result (λ rates. rates ≡ rates_against set.now (option_copied before.entry) list.now) }
+    ensures { let expected = rates_against set.now (option_copied before.entry) list.now in
+        IfOk result (λ rates. rates ≡ expected) }
 {
     let sources = set.sources.as_slice();
     let values = list.values.as_slice();
@@ -55,7 +46,7 @@ fn first_rates(
         .collect(alloc)
 }
 
-/// The rates of values against those that came `dt` units of 2^-30 s earlier.
+/// The rates of values against those that came `dt` (in 2^-30 s) earlier.
 fn later_rates(
     alloc: Global,
     sources: &[DataSource],

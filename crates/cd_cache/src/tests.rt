@@ -1,11 +1,11 @@
 //! Lists worked by hand, one after another.
 use crate::{Cache, Updated};
-use cd_value::{DataSet, DataSource, DsType, Identifier, Memory, Sequence, Text, Value, ValueList};
+use cd_value::{
+    DataSet, DataSource, DsType, Identifier, Memory, RateView, SECOND, Sequence, Text, Value,
+    ValueList,
+};
 use std::alloc::Global;
 use std::test::Fail;
-
-/// A second, in units of 2^-30 s.
-const SECOND: u64 = 1 << 30;
 
 fn set_of(alloc: Global, name: &str, kind: DsType) -> Result<DataSet, Memory> {
     let source = DataSource {
@@ -36,7 +36,7 @@ fn list_of(alloc: Global, name: &str, time: u64, value: Value) -> Result<ValueLi
 fn cached(cache: &Cache, name: &Text) -> Option<(u64, Value, u64, Option<i128>)> {
     let entry = cache.get(name)?;
     let value = entry.list.values.as_slice().first()?;
-    let rate = entry.rates.as_slice().first()?;
+    let rate = cache.rates(name)?.as_slice().first()?;
     Some((entry.list.time, *value, entry.arrival, rate.millionths()))
 }
 

@@ -6,12 +6,13 @@ use Rattle.std.specs.Fmt.{decimal}
 use Rattle.std.specs.List.{list_any, list_all, position, position_or_len, before_first, after_first}
 use Rattle.std.specs.Str.Parse.{digits_value, starts_with_minus, without_leading_sign}
 use Rattle.std.proofs.Math.Seq.{take-append_seam, drop-append-add, take-length}
-use Rattle.std.proofs.lemmas.Bool.{or_parts, and_parts, lt-ltb, le-ltb, leb-true, leb-false}
+use Rattle.std.proofs.lemmas.Bool.{and_parts, lt-ltb, le-ltb, leb-true, leb-false}
 use Rattle.std.proofs.lemmas.Fmt.{decimal_is_IsNumeral_wide, length-decimal-le_wide}
 use Rattle.std.proofs.lemmas.List.Folds.{list_any-append, list_all-append}
+use Rattle.cd_value.proofs.Cuts.{place_behind, place_none}
 use Rattle.cd_value.specs.Print.{six_digits, unsigned_text, millionths_text}
 use Rattle.cd_text.specs.Digits.{is_dot, after_place}
-use Rattle.cd_text.specs.Millionths.{millionths}
+use Rattle.cd_text.specs.Millionths.{bounded_millionths}
 use Rattle.cd_text.specs.Number.{Parts, is_e, is_number, number_of, parts_of, value, with_sign}
 use Rattle.cd_text.specs.declared.fault.NumFault.TheVariants.{BadNumber, OutOfRange}
 use Rattle.cd_text.proofs.Powers.{none_above, some_below}
@@ -19,18 +20,6 @@ use Rattle.cd_laws.specs.ReadBack.{read_back}
 use Rattle.cd_laws.proofs.Digits.{digits_pass, six_pass, not_digit, none_of_digits, printed_value}
 
 -- ---- where a printed number is cut
-
-place_behind : (p : ℕ → Bool) (xs : List ℕ) (y : ℕ) (ys : List ℕ) → list_any p xs ≡ false → p y ≡ true → position_or_len p (xs ++ y ∷ ys) ≡ length xs
-place_behind p [] y ys none e = rw e refl
-place_behind p (x ∷ xs) y ys none e =
-    let both = or_parts (p x) (list_any p xs) none in
-    rw both.0 (omega (arith, place_behind p xs y ys both.1 e))
-
-place_none : (p : ℕ → Bool) (xs : List ℕ) → list_any p xs ≡ false → position_or_len p xs ≡ length xs
-place_none p [] none = refl
-place_none p (x ∷ xs) none =
-    let both = or_parts (p x) (list_any p xs) none in
-    rw both.0 (omega (arith, place_none p xs both.1))
 
 no_place : (p : ℕ → Bool) (xs : List ℕ) → list_any p xs ≡ false → position p xs ≡ None
 no_place p xs none =
@@ -92,10 +81,10 @@ parts_unsigned (c ∷ cs) fraction some w f =
 
 -- ---- the value of a printed number
 
-within : (n : ℕ) → n ≤ 10 ^ 30 → millionths (n * 10 ^ 0) (10 ^ 6) ≡ Some n
+within : (n : ℕ) → n ≤ 10 ^ 30 → bounded_millionths (n * 10 ^ 0) (10 ^ 6) ≡ Some n
 within n h = sym (some_below n 0 6 n (omega arith) (omega arith))
 
-beyond : (n : ℕ) → 10 ^ 30 < n → millionths (n * 10 ^ 0) (10 ^ 6) ≡ None
+beyond : (n : ℕ) → 10 ^ 30 < n → bounded_millionths (n * 10 ^ 0) (10 ^ 6) ≡ None
 beyond n h = sym (none_above n 0 6 (omega arith))
 
 abbrev signed : Bool → ℕ → ℤ
@@ -122,12 +111,12 @@ value_is negative n h = step (nat_le n (10 ^ 30)) refl
         let le : n ≤ 10 ^ 30 = leb-true n (10 ^ 30) e in
         let few : length (whole_of n) ≤ 25 = length-decimal-le_wide 25 (n / 10 ^ 6) (omega arith) (omega arith) units in
         let short : nat_lt 36 (length (whole_of n) + 6) ≡ false = le-ltb 36 (length (whole_of n) + 6) (omega arith) in
-        rw short (ap (λ m. with_sign negative (millionths (m * 10 ^ 0) (10 ^ 6))) printed ∙ ap (with_sign negative) (within n le))
+        rw short (ap (λ m. with_sign negative (bounded_millionths (m * 10 ^ 0) (10 ^ 6))) printed ∙ ap (with_sign negative) (within n le))
     step false e = long (nat_lt 36 (length (whole_of n) + 6))
       where
-        long : (c : Bool) → cond c (Err OutOfRange) (with_sign negative (millionths (digits_value 10 (whole_of n ++ rest_of n) * 10 ^ 0) (10 ^ 6))) ≡ Err OutOfRange
+        long : (c : Bool) → cond c (Err OutOfRange) (with_sign negative (bounded_millionths (digits_value 10 (whole_of n ++ rest_of n) * 10 ^ 0) (10 ^ 6))) ≡ Err OutOfRange
         long true = refl
-        long false = ap (λ m. with_sign negative (millionths (m * 10 ^ 0) (10 ^ 6))) printed ∙ ap (with_sign negative) (beyond n (leb-false n (10 ^ 30) e))
+        long false = ap (λ m. with_sign negative (bounded_millionths (m * 10 ^ 0) (10 ^ 6))) printed ∙ ap (with_sign negative) (beyond n (leb-false n (10 ^ 30) e))
 
 number_made : (negative : Bool) (whole fraction : List ℕ) → 0 < length whole → list_all is_ascii_digit whole ≡ true → list_all is_ascii_digit fraction ≡ true → is_number (made negative whole fraction None) ≡ true
 number_made negative whole fraction some w f = rw (list_all-append is_ascii_digit whole fraction, w, f, lt-ltb 0 (length whole + length fraction) (omega arith)) refl

@@ -1,5 +1,5 @@
 -- The first place of a byte, and the text before and after it.
-use Rattle.std.proofs.Common.{◌≡◌, ℕ, ◌+◌, ◌-◌, ◌<◌, ◌≤◌, Bool, true, false, List, [], length, take, drop, Option, Some, None, cond, refl, sym, ap, ◌∙◌, arith, rules}
+use Rattle.std.proofs.Common.{◌≡◌, ℕ, ◌+◌, ◌-◌, ◌<◌, ◌≤◌, Bool, List, length, take, drop, Some, None, sym, ap, ◌∙◌, arith}
 use Rattle.std.specs.List.{position, position_or_len, before_first, after_first}
 use Rattle.std.specs.Prelude.{nat_lt}
 use Rattle.cd_text.specs.Digits.{after_place as behind_place}

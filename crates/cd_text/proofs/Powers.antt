@@ -1,9 +1,9 @@
 -- A fraction with powers of ten, in millionths.
-use Rattle.std.proofs.Common.{◌≡◌, ℕ, zero, suc, ◌+◌, ◌-◌, ◌*◌, ◌/◌, ◌^◌, ◌<◌, ◌≤◌, ◌⊎◌, inl, inr, Option, Some, None, refl, sym, ap, ◌∙◌, arith, rules}
+use Rattle.std.proofs.Common.{◌≡◌, ℕ, ◌+◌, ◌-◌, ◌*◌, ◌/◌, ◌^◌, ◌<◌, ◌≤◌, inl, inr, Some, None, refl, sym, ap, ◌∙◌, arith}
 use Rattle.std.proofs.Math.Nat.{pow-le-pow_right, mul_assoc, mul-le-mul_right, mul-lt-mul_of_pos_right, mul-div_cancel, mul-div-mul_right, div-eq_of_lt, div-mul-le_self, mul-le-mul_left, div-le_of_le-mul}
 use Rattle.std.proofs.lemmas.Nat.{pow-add}
 use Rattle.std.proofs.lemmas.Bool.{cond_below, cond_above, cases_lt}
-use Rattle.cd_text.specs.Millionths.{millionths_scaled, millionths}
+use Rattle.cd_text.specs.Millionths.{scaled_millionths, bounded_millionths}
 
 pub ten_le : (i j : ℕ) → i ≤ j → 10 ^ i ≤ 10 ^ j
 ten_le i j le = pow-le-pow_right {n = 10} (omega arith) le
@@ -15,16 +15,16 @@ ten_pos i = let h : 10 ^ 0 ≤ 10 ^ i = ten_le 0 i (omega arith) in omega arith
 pub ten_split : (i j k : ℕ) → i + j ≡ k → 10 ^ k ≡ 10 ^ i * 10 ^ j
 ten_split i j k e = ap (λ (m : ℕ). 10 ^ m) (sym e) ∙ pow-add 10 i j
 
-pub none_above : (n up down : ℕ) → 10 ^ 24 * 10 ^ down < n * 10 ^ up → None ≡ millionths_scaled n up down
-unfolding millionths
+pub none_above : (n up down : ℕ) → 10 ^ 24 * 10 ^ down < n * 10 ^ up → None ≡ scaled_millionths n up down
+unfolding bounded_millionths
 none_above n up down h = cond_below _ _ _ _ h
 
-pub some_below : (n up down m : ℕ) → n * 10 ^ up ≤ 10 ^ 24 * 10 ^ down → n * 10 ^ up * 10 ^ 6 / 10 ^ down ≡ m → Some m ≡ millionths_scaled n up down
-unfolding millionths
+pub some_below : (n up down m : ℕ) → n * 10 ^ up ≤ 10 ^ 24 * 10 ^ down → n * 10 ^ up * 10 ^ 6 / 10 ^ down ≡ m → Some m ≡ scaled_millionths n up down
+unfolding bounded_millionths
 some_below n up down m h e = cond_above _ _ _ _ _ h (ap (λ (k : ℕ). Some k) (sym e))
 
 -- a common power goes
-pub cancelled : (n up down k : ℕ) → millionths_scaled n up down ≡ millionths_scaled n (up + k) (down + k)
+pub cancelled : (n up down k : ℕ) → scaled_millionths n up down ≡ scaled_millionths n (up + k) (down + k)
 cancelled n up down k =
     let a : 10 ^ (up + k) ≡ 10 ^ up * 10 ^ k = pow-add 10 up k in
     let b : 10 ^ (down + k) ≡ 10 ^ down * 10 ^ k = pow-add 10 down k in
@@ -45,32 +45,32 @@ cancelled n up down k =
           sym (some_below n up down _ le refl) ∙ some_below n (up + k) (down + k) _ more' same
     ]
 
-pub rising : (n up down : ℕ) → down ≤ up → millionths_scaled n (up - down) 0 ≡ millionths_scaled n up down
+pub rising : (n up down : ℕ) → down ≤ up → scaled_millionths n (up - down) 0 ≡ scaled_millionths n up down
 rising n up down le =
     let e : up - down + down ≡ up = omega arith in
     let z : 0 + down ≡ down = omega arith in
-    cancelled n (up - down) 0 down ∙ ap (λ (k : ℕ). millionths_scaled n k (0 + down)) e ∙ ap (millionths_scaled n up) z
+    cancelled n (up - down) 0 down ∙ ap (λ (k : ℕ). scaled_millionths n k (0 + down)) e ∙ ap (scaled_millionths n up) z
 
-pub falling : (n up down : ℕ) → up < down → millionths_scaled n 0 (down - up) ≡ millionths_scaled n up down
+pub falling : (n up down : ℕ) → up < down → scaled_millionths n 0 (down - up) ≡ scaled_millionths n up down
 falling n up down lt =
     let e : down - up + up ≡ down = omega arith in
     let z : 0 + up ≡ up = omega arith in
-    cancelled n 0 (down - up) up ∙ ap (λ (k : ℕ). millionths_scaled n k (down - up + up)) z ∙ ap (millionths_scaled n up) e
+    cancelled n 0 (down - up) up ∙ ap (λ (k : ℕ). scaled_millionths n k (down - up + up)) z ∙ ap (scaled_millionths n up) e
 
-pub zero_scaled : (up down : ℕ) → Some 0 ≡ millionths_scaled 0 up down
+pub zero_scaled : (up down : ℕ) → Some 0 ≡ scaled_millionths 0 up down
 zero_scaled up down =
     let h : 0 * 10 ^ up ≡ 0 = omega arith in
     let d : 0 / 10 ^ down ≡ 0 = div-eq_of_lt (ten_pos down) in
     some_below 0 up down 0 (omega arith) (rw h d)
 
 -- n times a power of ten
-pub up_far : (n shift : ℕ) → 0 < n → 24 < shift → None ≡ millionths_scaled n shift 0
+pub up_far : (n shift : ℕ) → 0 < n → 24 < shift → None ≡ scaled_millionths n shift 0
 up_far n shift pos far =
     let a : 10 ^ 25 ≤ 10 ^ shift = ten_le 25 shift (omega arith) in
     let b : 1 * 10 ^ shift ≤ n * 10 ^ shift = mul-le-mul_right (10 ^ shift) pos in
     none_above n shift 0 (omega arith)
 
-pub up_none : (n shift most : ℕ) → shift ≤ 24 → most ≡ 10 ^ (24 - shift) → most < n → None ≡ millionths_scaled n shift 0
+pub up_none : (n shift most : ℕ) → shift ≤ 24 → most ≡ 10 ^ (24 - shift) → most < n → None ≡ scaled_millionths n shift 0
 up_none n shift most le e near =
     let a : 10 ^ 24 ≡ 10 ^ (24 - shift) * 10 ^ shift = ten_split (24 - shift) shift 24 (omega arith) in
     let b : most * 10 ^ shift < n * 10 ^ shift = mul-lt-mul_of_pos_right near (ten_pos shift) in
@@ -90,13 +90,13 @@ up_value n shift = let a : 10 ^ (shift + 6) ≡ 10 ^ shift * 10 ^ 6 = pow-add 10
 pub up_small : (n shift most k : ℕ) → shift ≤ 24 → most ≡ 10 ^ (24 - shift) → n ≤ most → k ≡ 10 ^ (shift + 6) → n * k ≤ 10 ^ 30
 up_small n shift most k le e small ke = let a = up_value n shift in let b = up_bound n shift most le e small in rw ke (omega (arith, a, b))
 
-pub up_some : (n shift most k : ℕ) → shift ≤ 24 → most ≡ 10 ^ (24 - shift) → n ≤ most → k ≡ 10 ^ (shift + 6) → Some (n * k) ≡ millionths_scaled n shift 0
+pub up_some : (n shift most k : ℕ) → shift ≤ 24 → most ≡ 10 ^ (24 - shift) → n ≤ most → k ≡ 10 ^ (shift + 6) → Some (n * k) ≡ scaled_millionths n shift 0
 up_some n shift most k le e small ke =
     let b = up_bound n shift most le e small in
     rw ke (some_below n shift 0 _ (omega (arith, b)) (omega (arith, up_value n shift)))
 
 -- n by a power of ten
-pub down_none : (n shift most : ℕ) → most ≡ 10 ^ (24 + shift) → most < n → None ≡ millionths_scaled n 0 shift
+pub down_none : (n shift most : ℕ) → most ≡ 10 ^ (24 + shift) → most < n → None ≡ scaled_millionths n 0 shift
 down_none n shift most e h = let a : 10 ^ (24 + shift) ≡ 10 ^ 24 * 10 ^ shift = pow-add 10 24 shift in none_above n 0 shift (omega arith)
 
 far_bound : (n shift : ℕ) → n < 10 ^ 36 → 12 < shift → n * 10 ^ 0 ≤ 10 ^ 24 * 10 ^ shift
@@ -111,18 +111,18 @@ cut_value n shift k lt e =
     let b : n * 10 ^ 0 * 10 ^ 6 ≡ n * 10 ^ 6 = omega arith in
     rw (b, a) (mul-div-mul_right {m = 10 ^ 6} n k (omega arith))
 
-pub down_all : (n shift : ℕ) → n < 10 ^ 36 → 42 < shift → Some 0 ≡ millionths_scaled n 0 shift
+pub down_all : (n shift : ℕ) → n < 10 ^ 36 → 42 < shift → Some 0 ≡ scaled_millionths n 0 shift
 down_all n shift small far =
     let a : 10 ^ 43 ≤ 10 ^ shift = ten_le 43 shift (omega arith) in
     some_below n 0 shift 0 (far_bound n shift small (omega arith)) (div-eq_of_lt (omega arith))
 
-pub down_far : (n shift k : ℕ) → n < 10 ^ 36 → 12 < shift → k ≡ 10 ^ (shift - 6) → Some (n / k) ≡ millionths_scaled n 0 shift
+pub down_far : (n shift k : ℕ) → n < 10 ^ 36 → 12 < shift → k ≡ 10 ^ (shift - 6) → Some (n / k) ≡ scaled_millionths n 0 shift
 down_far n shift k small far e = some_below n 0 shift (n / k) (far_bound n shift small far) (cut_value n shift k (omega arith) e)
 
-pub down_near : (n shift most k : ℕ) → most ≡ 10 ^ (24 + shift) → n ≤ most → 6 < shift → k ≡ 10 ^ (shift - 6) → Some (n / k) ≡ millionths_scaled n 0 shift
+pub down_near : (n shift most k : ℕ) → most ≡ 10 ^ (24 + shift) → n ≤ most → 6 < shift → k ≡ 10 ^ (shift - 6) → Some (n / k) ≡ scaled_millionths n 0 shift
 down_near n shift most k m near far e = some_below n 0 shift (n / k) (near_bound n shift most m near) (cut_value n shift k far e)
 
-pub down_few : (n shift most k : ℕ) → most ≡ 10 ^ (24 + shift) → n ≤ most → shift ≤ 6 → k ≡ 10 ^ (6 - shift) → Some (n * k) ≡ millionths_scaled n 0 shift
+pub down_few : (n shift most k : ℕ) → most ≡ 10 ^ (24 + shift) → n ≤ most → shift ≤ 6 → k ≡ 10 ^ (6 - shift) → Some (n * k) ≡ scaled_millionths n 0 shift
 down_few n shift most k m near le e =
     let a : 10 ^ 6 ≡ k * 10 ^ shift = rw e (ten_split (6 - shift) shift 6 (omega arith)) in
     let b : n * 10 ^ 0 * 10 ^ 6 ≡ n * k * 10 ^ shift = omega (arith, ap (λ (m : ℕ). n * m) a, mul_assoc n k (10 ^ shift)) in

@@ -1,5 +1,5 @@
 -- A text in quotes is one word.
-use Rattle.std.proofs.Common.{◌≡◌, ℕ, ◌+◌, List, [], ◌∷◌, ◌++◌, Bool, true, false, Option, Some, None, Result, Ok, Err, ◌⊎◌, inl, inr, cond, refl, sym, ap, ◌∙◌, append_assoc, subst, arith}
+use Rattle.std.proofs.Common.{◌≡◌, ℕ, ◌+◌, List, [], ◌∷◌, ◌++◌, Bool, true, false, Option, Some, None, Result, Ok, inl, inr, cond, refl, sym, ap, ◌∙◌, append_assoc, subst}
 use Rattle.std.specs.Prelude.{encode_utf8 as encode, ◌==◌, ◌||◌}
 use Rattle.std.specs.Str.{chars, IsUtf8, encode_utf8_all}
 use Rattle.std.specs.Char.{len_utf8}
@@ -13,8 +13,8 @@ use Rattle.std.proofs.lemmas.List.Concat.{flat_map-append}
 use Rattle.cd_text.specs.declared.word.Word.{Word}
 use Rattle.cd_text.specs.declared.word.WordFault.{WordFault}
 use Rattle.cd_text.specs.declared.cutter.Quoting.{Quoting}
-use Rattle.cd_text.specs.declared.cutter.Quoting.TheVariants.{Outside, Inside, Escaped}
-use Rattle.cd_text.specs.Quoting.{Position, adds, quoting_after, escaped, quoted_of, words_of, first_word}
+use Rattle.cd_text.specs.declared.cutter.Quoting.TheVariants.{Outside, Inside}
+use Rattle.cd_text.specs.Quoting.{adds, quoting_after, escaped, quoted_of, words_of, first_word}
 use Rattle.cd_text.specs.Cutting.{State, grown, fed}
 use Rattle.cd_text.proofs.Runs.{nothing, is_words}
 

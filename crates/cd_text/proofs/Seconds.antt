@@ -1,12 +1,11 @@
 -- Seconds, written as digits behind a whole number, in units of 2^-30 s.
-use Rattle.std.proofs.Common.{◌≡◌, ℕ, ◌+◌, ◌*◌, ◌/◌, ◌^◌, ◌<◌, ◌≤◌, min, List, [], ◌∷◌, ◌++◌, length, Result, Ok, Err, refl, sym, ap, ◌∙◌, subst, arith}
+use Rattle.std.proofs.Common.{◌≡◌, ℕ, ◌+◌, ◌*◌, ◌/◌, ◌^◌, ◌<◌, ◌≤◌, min, List, [], ◌∷◌, ◌++◌, length, Ok, Err, refl, sym, ap, ◌∙◌, subst, arith}
 use Rattle.std.proofs.Math.Nat.{mul_assoc, mul-le-mul_right}
 use Rattle.std.proofs.lemmas.Nat.{pow-add, div_below}
 use Rattle.std.proofs.lemmas.Bool.{cond_below, cond_above}
 use Rattle.std.specs.Char.{digit_value}
 use Rattle.std.specs.Str.Parse.{digits_value, digits_value_after}
 use Rattle.cd_text.specs.Time.{units}
-use Rattle.cd_text.specs.declared.fault.NumFault.{NumFault}
 use Rattle.cd_text.specs.declared.fault.NumFault.TheVariants.{OutOfRange}
 use Rattle.cd_text.proofs.DigitRuns.{digits_value_after-append}
 use Rattle.cd_text.proofs.Powers.{ten_le, ten_pos}

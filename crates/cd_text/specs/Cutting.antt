@@ -20,7 +20,11 @@ abbrev pub so_far : OpenWord → Word
 so_far w = record { text = string_bytes w.text; start = w.start }
 
 abbrev pub state : Cutter → State
-state c = record { words = c.words.items; current = option_map so_far c.current; position = record { place = c.place; quoting = c.quoting } }
+state c = record {
+  words = c.words.items;
+  current = option_map so_far c.current;
+  position = record { place = c.place; quoting = c.quoting };
+}
 
 -- the current word with more text; a new one begins at the place
 abbrev pub longer : ℕ → Option Word → List ℕ → Word
@@ -29,8 +33,10 @@ longer place (Some w) t = record { text = w.text ++ t; start = w.start }
 
 -- the state after a character that adds this to its word
 abbrev pub grown : State → Option (List ℕ) → Position → State
-grown s None p = record { words = s.words ++ option_to_list s.current; current = None; position = p }
-grown s (Some t) p = record { words = s.words; current = Some (longer s.position.place s.current t); position = p }
+grown s None p =
+    record { words = s.words ++ option_to_list s.current; current = None; position = p }
+grown s (Some t) p =
+    record { words = s.words; current = Some (longer s.position.place s.current t); position = p }
 
 abbrev pub part_adds : Part → ℕ → Option (List ℕ)
 part_adds Blank c = None

@@ -1,11 +1,17 @@
 -- A fraction in millionths.
+use Rattle.cd_value.specs.declared.numbers.TheConstants.{NUMBER_LIMIT}
 use Rattle.std.specs.Prelude.{ℕ, ◌*◌, ◌/◌, ◌^◌, nat_lt, Option, Some, None, if◌then◌else◌}
 
--- the whole millionths in numerator / denominator, and none where that fraction is above 10^24
-unfoldable pub millionths : ℕ → ℕ → Option ℕ
-millionths numerator denominator =
-    if nat_lt (10 ^ 24 * denominator) numerator then None else Some (numerator * 10 ^ 6 / denominator)
+-- a number is in range up to so many whole ones
+abbrev pub ones_limit : ℕ
+ones_limit = NUMBER_LIMIT / 10 ^ 6
+
+-- the whole millionths in numerator / denominator, and none where that fraction is out of range
+unfoldable pub bounded_millionths : ℕ → ℕ → Option ℕ
+bounded_millionths numerator denominator =
+    if nat_lt (ones_limit * denominator) numerator then None
+    else Some (numerator * 10 ^ 6 / denominator)
 
 -- the same of n * 10^up / 10^down
-abbrev pub millionths_scaled : ℕ → ℕ → ℕ → Option ℕ
-millionths_scaled n up down = millionths (n * 10 ^ up) (10 ^ down)
+abbrev pub scaled_millionths : ℕ → ℕ → ℕ → Option ℕ
+scaled_millionths n up down = bounded_millionths (n * 10 ^ up) (10 ^ down)

@@ -4,12 +4,14 @@ use Rattle.std.specs.Option.{option_copied}
 use Rattle.std.specs.List.{before_first, after_first, position}
 use Rattle.std.specs.Str.Parse.{digits_value, without_leading_sign, starts_with_minus}
 use Rattle.cd_text.specs.Digits.{are_digits, is_dot, after_place}
-use Rattle.cd_text.specs.Millionths.{millionths}
+use Rattle.cd_text.specs.Millionths.{bounded_millionths}
 use Rattle.cd_text.specs.declared.number.Decimal.{Decimal}
+use Rattle.cd_text.specs.declared.numbers.TheConstants.{DIGITS_LIMIT, EXPONENT_LIMIT}
 use Rattle.cd_text.specs.declared.fault.NumFault.{NumFault}
 use Rattle.cd_text.specs.declared.fault.NumFault.TheVariants.{BadNumber, OutOfRange}
 
--- the parts of a number's text: a sign, whole digits, a dot, further digits, and an exponent behind an e
+-- the parts of a number's text: a sign, whole digits, a dot, further digits, and an exponent behind
+-- an e
 pub record Parts : Type 0 where
   pub is_negative : Bool
   pub whole : List ℕ
@@ -30,16 +32,18 @@ parts_of t =
       exponent = after_place unsigned (position is_e unsigned);
     }
 
--- none, or an optional sign and one to four digits
+-- none, or an optional sign and digits, of which there is at least one
 abbrev pub is_exponent : Option (List ℕ) → Bool
 is_exponent None = true
 is_exponent (Some e) =
     let digits = without_leading_sign e in
-    are_digits digits && (nat_lt 0 (length digits) && nat_le (length digits) 4)
+    are_digits digits && (nat_lt 0 (length digits) && nat_le (length digits) EXPONENT_LIMIT)
 
 -- digits, of which there is at least one, and an exponent
 abbrev pub is_number : Parts → Bool
-is_number p = are_digits (p.whole ++ p.fraction) && (nat_lt 0 (length p.whole + length p.fraction) && is_exponent p.exponent)
+is_number p =
+    are_digits (p.whole ++ p.fraction)
+    && (nat_lt 0 (length p.whole + length p.fraction) && is_exponent p.exponent)
 
 -- the power of ten that an exponent multiplies by
 abbrev pub raised_by : Option (List ℕ) → ℕ
@@ -63,11 +67,11 @@ abbrev pub with_sign : Bool → Option ℕ → Result ℤ NumFault
 with_sign is_negative None = Err OutOfRange
 with_sign is_negative (Some n) = Ok (if is_negative then neg_ℤ (pos n) else pos n)
 
--- the value of a number in millionths, cut toward zero; more than 36 digits are out of range
+-- the value of a number in millionths, cut toward zero; too many digits are out of range
 abbrev pub value : Parts → Result ℤ NumFault
 value p =
-    if nat_lt 36 (length p.whole + length p.fraction) then Err OutOfRange
-    else with_sign p.is_negative (millionths (numerator p) (denominator p))
+    if nat_lt DIGITS_LIMIT (length p.whole + length p.fraction) then Err OutOfRange
+    else with_sign p.is_negative (bounded_millionths (numerator p) (denominator p))
 
 -- what a text reads as
 unfoldable pub number_of : List ℕ → Result ℤ NumFault
@@ -75,4 +79,9 @@ number_of t = if is_number (parts_of t) then value (parts_of t) else Err BadNumb
 
 -- the parts that the code holds
 abbrev pub parts : Decimal → Parts
-parts d = record { is_negative = d.is_negative; whole = d.whole.now; fraction = d.fraction.now; exponent = option_copied d.exponent }
+parts d = record {
+  is_negative = d.is_negative;
+  whole = d.whole.now;
+  fraction = d.fraction.now;
+  exponent = option_copied d.exponent;
+}

@@ -9,7 +9,8 @@ use Rattle.cd_text.specs.declared.word.WordFault.TheVariants.{Unterminated, Memo
 use Rattle.cd_text.specs.declared.cutter.Quoting.{Quoting}
 use Rattle.cd_text.specs.declared.cutter.Quoting.TheVariants.{Outside, Inside, Escaped}
 
--- the quoting after a character: a quote switches it, and inside a backslash lets the next character stand for itself
+-- the quoting after a character: a quote switches it, and inside a backslash lets the next
+-- character stand for itself
 abbrev pub quoting_after : Quoting → ℕ → Quoting
 quoting_after Outside c = if c == 34 then Inside else Outside
 quoting_after Inside c = if c == 34 then Outside else if c == 92 then Escaped else Inside
@@ -17,7 +18,8 @@ quoting_after Escaped c = Inside
 
 -- what a character adds to its word; none for a blank between words
 abbrev pub adds : Quoting → ℕ → Option (List ℕ)
-adds Outside c = if c == 32 || c == 9 then None else if c == 34 then Some [] else Some (encode_utf8 c)
+adds Outside c =
+    if c == 32 || c == 9 then None else if c == 34 then Some [] else Some (encode_utf8 c)
 adds Inside c = if c == 34 || c == 92 then Some [] else Some (encode_utf8 c)
 adds Escaped c = Some (encode_utf8 c)
 
@@ -63,7 +65,8 @@ is_outside Escaped = false
 -- the words of a line, unless it ends inside quotes
 unfoldable pub words_of : List ℕ → Result (List Word) WordFault
 words_of line =
-    if is_outside (fold next start (chars line)).quoting then Ok (words_from start (chars line)) else Err Unterminated
+    if is_outside (fold next start (chars line)).quoting then Ok (words_from start (chars line))
+    else Err Unterminated
 
 -- the fault of an error, and none for want of memory
 abbrev pub fault : WordFault → Option WordFault

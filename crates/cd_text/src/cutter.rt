@@ -89,7 +89,8 @@ fn part_of(quoting: Quoting, c: char) -> Part
 impl Cutter {
     /// Ends the open word.
     fn close(&mut self) -> Result<(), AllocError>
-        ensures { OnOk result (state self.new ≡ grown (state self.old) None (state self.old).position) }
+        ensures { OnOk result
+            (state self.new ≡ grown (state self.old) None (state self.old).position) }
     {
         if let Some(word) = self.current.take() {
             self.words.push(Word {
@@ -114,7 +115,8 @@ impl Cutter {
 
     /// Adds a character to the open word.
     fn add(&mut self, alloc: Global, c: char) -> Result<(), AllocError>
-        ensures { OnOk result (state self.new ≡ grown (state self.old) (Some (encode_utf8 c)) (state self.old).position) }
+        ensures { let old = state self.old in
+            OnOk result (state self.new ≡ grown old (Some (encode_utf8 c)) old.position) }
     {
         match &mut self.current {
             Some(word) => word.text.push(c)?,
@@ -132,7 +134,8 @@ impl Cutter {
 
     /// Adds what a character is to its word.
     fn add_part(&mut self, alloc: Global, part: Part, c: char) -> Result<(), AllocError>
-        ensures { OnOk result (state self.new ≡ grown (state self.old) (part_adds part c) (state self.old).position) }
+        ensures { let old = state self.old in
+            OnOk result (state self.new ≡ grown old (part_adds part c) old.position) }
     {
         match part {
             Part::Blank => self.close(),

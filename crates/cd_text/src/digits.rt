@@ -1,7 +1,6 @@
 //! Runs of decimal digits, and where a text is cut.
-ghost use Rattle.cd_text.specs.Digits.{after_place, are_digits, is_dot};
+ghost use Rattle.cd_text.specs.Digits.{are_digits, is_dot};
 ghost use Rattle.std.specs.List.{position};
-ghost use Rattle.std.specs.Option.{option_copied};
 ghost use Rattle.std.specs.Prelude.{IsTrue, length, ◌*◌, ◌+◌, ◌<◌, ◌^◌, ◌≡◌, ◌≤◌};
 ghost use Rattle.std.specs.Str.Parse.{digits_value_after, starts_with_minus, without_leading_sign};
 

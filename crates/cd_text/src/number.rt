@@ -29,7 +29,9 @@ ghost use Rattle.std.specs.Str.Parse.{digits_value};
 
 use crate::digits::{after_sign, all_digits, begins_with_minus, place_of_dot, with_digits};
 use crate::fault::NumFault;
+use crate::numbers::{DIGITS_LIMIT, EXPONENT_LIMIT};
 use crate::scale::scaled;
+use cd_value::NUMBER_LIMIT;
 
 /// The parts of a number's text.
 #[derive(Clone, Copy)]
@@ -85,14 +87,14 @@ fn split(text: &[u8]) -> Decimal<'_>
     }
 }
 
-/// Whether the exponent is none, or an optional sign and one to four digits.
+/// Whether the exponent is none, or an optional sign and some digits, but not too many.
 fn has_good_exponent(number: &Decimal) -> bool
     ensures { result ≡ is_exponent (parts number.now).exponent }
 {
     match number.exponent {
         Some(text) => {
             let digits = after_sign(text);
-            all_digits(digits) && !digits.is_empty() && digits.len() <= 4
+            all_digits(digits) && !digits.is_empty() && digits.len() <= EXPONENT_LIMIT
         }
         None => true,
     }
@@ -131,16 +133,16 @@ fn powers_of(exponent: Option<&[u8]>) -> (u32, u32)
 /// The number that two runs of digits write together.
 fn value_of(whole: &[u8], fraction: &[u8]) -> u128
     requires digits { IsTrue (are_digits (whole.now ++ fraction.now)) }
-    requires short { length whole.now + length fraction.now ≤ 36 }
+    requires short { length whole.now + length fraction.now ≤ DIGITS_LIMIT }
     ensures value { result ≡ digits_value 10 (whole.now ++ fraction.now) }
-    ensures small { result < 10 ^ 36 }
+    ensures small { result < 10 ^ DIGITS_LIMIT }
 {
     with_digits(with_digits(0, whole), fraction)
 }
 
 /// The magnitude with the sign, where it is in range.
 fn signed(is_negative: bool, magnitude: Option<u128>) -> Result<i128, NumFault>
-    requires { IfSome magnitude (λ n. n ≤ 10 ^ 30) }
+    requires { IfSome magnitude (λ n. n ≤ NUMBER_LIMIT) }
     ensures { result ≡ with_sign is_negative magnitude }
 {
     match magnitude {
@@ -155,7 +157,7 @@ fn valued(number: &Decimal) -> Result<i128, NumFault>
     requires { IsTrue (is_number (parts number.now)) }
     ensures { result ≡ value (parts number.now) }
 {
-    if number.whole.len() + number.fraction.len() > 36 {
+    if number.whole.len() + number.fraction.len() > DIGITS_LIMIT {
         return Err(NumFault::OutOfRange);
     }
     let (up, down) = powers_of(number.exponent);
@@ -169,8 +171,9 @@ fn valued(number: &Decimal) -> Result<i128, NumFault>
 /// The number that the bytes write, in millionths, cut toward zero.
 ///
 /// A number is an optional sign, digits with at most one dot among, before or after them (at least
-/// one digit, at most 36), and an optional exponent: `e` or `E`, an optional sign, and one to four
-/// digits. Gauges of collectd-unixsock(5) and bounds of types.db(5) are such numbers.
+/// one digit, at most `DIGITS_LIMIT`), and an optional exponent: `e` or `E`, an optional sign, and
+/// one to `EXPONENT_LIMIT` digits. Gauges of collectd-unixsock(5) and bounds of types.db(5) are such
+/// numbers. One above `NUMBER_LIMIT` in magnitude is out of range.
 #[tactic(auto, unfolding(crate::specs::Number::number_of))]
 pub fn read_millionths_bytes(text: &[u8]) -> Result<i128, NumFault>
     ensures { result ≡ number_of text.now }
@@ -182,7 +185,8 @@ pub fn read_millionths_bytes(text: &[u8]) -> Result<i128, NumFault>
     valued(&number)
 }
 
-/// The number that a text writes, in millionths, cut toward zero: `read_millionths_bytes` of its bytes.
+/// The number that a text writes, in millionths, cut toward zero: `read_millionths_bytes` of its
+/// bytes.
 pub fn read_millionths(text: &str) -> Result<i128, NumFault>
     ensures { result ≡ number_of text.now }
 {

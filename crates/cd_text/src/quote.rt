@@ -17,7 +17,8 @@ use std::alloc::{AllocError, Global};
 
 /// Adds a character as it is written in quotes.
 fn push_escaped(text: &mut String, c: char) -> Result<(), AllocError>
-    ensures { OnOk result (string_bytes text.new ≡ string_bytes text.old ++ encode_utf8_all (escaped c)) }
+    ensures { let added = encode_utf8_all (escaped c) in
+        OnOk result (string_bytes text.new ≡ string_bytes text.old ++ added) }
 {
     if c == '"' || c == '\\' {
         text.push('\\')?;

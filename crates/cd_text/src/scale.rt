@@ -1,6 +1,9 @@
 //! Numbers scaled by powers of ten.
-ghost use Rattle.cd_text.specs.Millionths.{millionths_scaled};
+ghost use Rattle.cd_text.specs.Millionths.{scaled_millionths};
 ghost use Rattle.std.specs.Prelude.{IfSome, ◌*◌, ◌+◌, ◌/◌, ◌<◌, ◌^◌, ◌≡◌, ◌≤◌};
+
+use crate::numbers::DIGITS_LIMIT;
+use cd_value::NUMBER_LIMIT;
 
 /// The power of ten.
 #[tactic(auto, using(crate::proofs::Powers::tens))]
@@ -15,8 +18,8 @@ fn ten_to(k: u32) -> u128
 /// `n` times `10^shift`, in millionths, where it is at most `10^24`.
 fn scaled_up(n: u128, shift: u32) -> Option<u128>
     requires { 0 < n }
-    ensures value { result ≡ millionths_scaled n shift 0 }
-    ensures small { IfSome result (λ m. m ≤ 10 ^ 30) }
+    ensures value { result ≡ scaled_millionths n shift 0 }
+    ensures small { IfSome result (λ m. m ≤ NUMBER_LIMIT) }
 {
     if shift > 24 {
         return None;
@@ -30,9 +33,9 @@ fn scaled_up(n: u128, shift: u32) -> Option<u128>
 
 /// `n` by `10^shift`, in millionths, where it is at most `10^24`.
 fn scaled_down(n: u128, shift: u32) -> Option<u128>
-    requires { n < 10 ^ 36 }
-    ensures value { result ≡ millionths_scaled n 0 shift }
-    ensures small { IfSome result (λ m. m ≤ 10 ^ 30) }
+    requires { n < 10 ^ DIGITS_LIMIT }
+    ensures value { result ≡ scaled_millionths n 0 shift }
+    ensures small { IfSome result (λ m. m ≤ NUMBER_LIMIT) }
 {
     if shift > 42 {
         return Some(0);
@@ -54,9 +57,9 @@ fn scaled_down(n: u128, shift: u32) -> Option<u128>
 /// `n` times `10^up` by `10^down`, in millionths, where it is at most `10^24`.
 #[tactic(auto, using(crate::proofs::Powers::cases))]
 pub fn scaled(n: u128, up: u32, down: u32) -> Option<u128>
-    requires { n < 10 ^ 36 }
-    ensures value { result ≡ millionths_scaled n up down }
-    ensures small { IfSome result (λ m. m ≤ 10 ^ 30) }
+    requires { n < 10 ^ DIGITS_LIMIT }
+    ensures value { result ≡ scaled_millionths n up down }
+    ensures small { IfSome result (λ m. m ≤ NUMBER_LIMIT) }
 {
     if n == 0 {
         Some(0)

@@ -1,5 +1,6 @@
 //! Cases worked by hand from the rules.
 use crate::{NumFault, Word, quoted, read_millionths, read_time, to_time, words};
+use cd_value::TryCopy;
 use std::alloc::{AllocError, Global};
 use std::test::Fail;
 
@@ -124,7 +125,7 @@ fn cuts_words(rt: HostRuntime) -> Result<(), Fail> {
         ("\"a\\", "Unterminated"),
     ] {
         let cut = match words(rt.alloc(), line) {
-            Ok(words) => shown(rt.alloc(), words.as_slice())?,
+            Ok(words) => shown(rt.alloc(), words.copy(rt.alloc())?.as_slice())?,
             Err(fault) => format!(in rt.alloc(); "{fault:?}")?,
         };
         assert_eq!(rt; cut.as_str(), want, "at {line}");

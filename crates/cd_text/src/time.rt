@@ -1,5 +1,5 @@
 //! Times as text.
-ghost use Rattle.cd_text.specs.Digits.{after_place, are_digits, is_dot};
+ghost use Rattle.cd_text.specs.Digits.{are_digits};
 ghost use Rattle.cd_text.specs.Time.{
   further,
   is_fraction,
@@ -10,7 +10,6 @@ ghost use Rattle.cd_text.specs.Time.{
   units,
   units_of_millionths,
 };
-ghost use Rattle.std.specs.Option.{option_copied};
 ghost use Rattle.std.specs.Prelude.{
   IsTrue,
   length,
@@ -30,9 +29,8 @@ ghost use Rattle.std.specs.Str.Parse.{digits_value, digits_value_after};
 
 use crate::digits::{all_digits, place_of_dot, with_digits};
 use crate::fault::NumFault;
-
-/// The first number of seconds that no time reaches.
-const END: u64 = 1 << 34;
+use crate::numbers::{DURATION_LIMIT, FRACTION_LIMIT, SECONDS_END};
+use cd_value::SECOND;
 
 /// The parts of a time's text.
 #[derive(Clone, Copy)]
@@ -63,7 +61,7 @@ fn has_good_fraction(seconds: &Seconds) -> bool
     ensures { result ≡ is_fraction (parts seconds.now).fraction }
 {
     match seconds.fraction {
-        Some(digits) => all_digits(digits) && !digits.is_empty() && digits.len() <= 9,
+        Some(digits) => all_digits(digits) && !digits.is_empty() && digits.len() <= FRACTION_LIMIT,
         None => true,
     }
 }
@@ -80,7 +78,7 @@ fn further_digits<'a>(seconds: &Seconds<'a>) -> &'a [u8]
     requires { IsTrue (is_fraction (parts seconds.now).fraction) }
     ensures value { result.now ≡ further (parts seconds.now) }
     ensures digits { IsTrue (are_digits result.now) }
-    ensures short { length result.now ≤ 9 }
+    ensures short { length result.now ≤ FRACTION_LIMIT }
 {
     match seconds.fraction {
         Some(digits) => digits,
@@ -88,47 +86,49 @@ fn further_digits<'a>(seconds: &Seconds<'a>) -> &'a [u8]
     }
 }
 
-/// The number that digits write, or `2^34` where it is that much or more.
+/// The number that digits write, or `SECONDS_END` where it is that much or more.
 fn capped_value(digits: &[u8]) -> u64
     requires { IsTrue (are_digits digits.now) }
-    ensures { result ≡ min (digits_value 10 digits.now) (2 ^ 34) }
+    ensures { result ≡ min (digits_value 10 digits.now) SECONDS_END }
 {
     let mut value = 0;
     for digit in digits {
-        value = (value * 10 + (*digit - b'0') as u64).min(END);
+        value = (value * 10 + (*digit - b'0') as u64).min(SECONDS_END);
     }
     value
 }
 
-/// Whole seconds and the digits behind their dot, in units of 2^-30 s.
+/// Whole seconds and the digits behind their dot, in 2^-30 s.
 fn in_units(whole: u64, further: &[u8]) -> u64
-    requires in_range { whole < 2 ^ 34 }
+    requires in_range { whole < SECONDS_END }
     requires digits { IsTrue (are_digits further.now) }
-    requires short { length further.now ≤ 9 }
-    ensures value { result ≡ digits_value_after 10 whole further.now * 2 ^ 30 / 10 ^ length further.now }
-    ensures in_range { digits_value_after 10 whole further.now < 2 ^ 34 * 10 ^ length further.now }
+    requires short { length further.now ≤ FRACTION_LIMIT }
+    ensures value { let numerator = digits_value_after 10 whole further.now in
+        result ≡ numerator * SECOND / 10 ^ length further.now }
+    ensures in_range { let numerator = digits_value_after 10 whole further.now in
+        numerator < SECONDS_END * 10 ^ length further.now }
 {
     let numerator = with_digits(whole as u128, further);
-    (numerator * (1 << 30) / 10u128.pow(further.len() as u32)) as u64
+    (numerator * SECOND as u128 / 10u128.pow(further.len() as u32)) as u64
 }
 
-/// Seconds in units of 2^-30 s.
+/// Seconds, in 2^-30 s.
 fn valued(seconds: &Seconds) -> Result<u64, NumFault>
     requires { IsTrue (is_time (parts seconds.now)) }
     ensures { let p = parts seconds.now in
         result ≡ units (digits_value 10 (p.whole ++ further p)) (10 ^ length (further p)) }
 {
     let whole = capped_value(seconds.whole);
-    if whole == END {
+    if whole == SECONDS_END {
         return Err(NumFault::OutOfRange);
     }
     Ok(in_units(whole, further_digits(seconds)))
 }
 
-/// The time that the bytes write in seconds, in units of 2^-30 s, cut to the unit below.
+/// The time that the bytes write in seconds, in 2^-30 s, cut to the unit below.
 ///
-/// A time is one or more digits and, where a dot follows, one to nine digits more, as
-/// collectd-unixsock(5) has them in its commands. It is out of range from 2^34 seconds on.
+/// A time is one or more digits and, where a dot follows, one to `FRACTION_LIMIT` digits more, as
+/// collectd-unixsock(5) has them in its commands. It is out of range from `SECONDS_END` on.
 #[tactic(auto, unfolding(crate::specs::Time::time_of))]
 pub fn read_time_bytes(text: &[u8]) -> Result<u64, NumFault>
     ensures { result ≡ time_of text.now }
@@ -140,18 +140,18 @@ pub fn read_time_bytes(text: &[u8]) -> Result<u64, NumFault>
     valued(&seconds)
 }
 
-/// The time that a text writes in seconds, in units of 2^-30 s: `read_time_bytes` of its bytes.
+/// The time that a text writes in seconds, in 2^-30 s: `read_time_bytes` of its bytes.
 pub fn read_time(text: &str) -> Result<u64, NumFault>
     ensures { result ≡ time_of text.now }
 {
     read_time_bytes(text.as_bytes())
 }
 
-/// Millionths of a second, of at most 10^9 seconds, in units of 2^-30 s, cut to the unit below.
+/// Millionths of a second as a time in 2^-30 s, cut to the unit below.
 pub fn to_time(millionths: i128) -> u64
     requires low { pos 0 ≤ℤ millionths }
-    requires high { millionths ≤ℤ pos (10 ^ 15) }
+    requires high { millionths ≤ℤ DURATION_LIMIT }
     ensures { result ≡ units_of_millionths millionths }
 {
-    ((millionths as u128) * (1 << 30) / 1_000_000) as u64
+    (millionths as u128 * SECOND as u128 / 1_000_000) as u64
 }

@@ -2,8 +2,8 @@
 ghost use Rattle.cd_text.specs.declared.word.WordFault.TheVariants as errors;
 ghost use Rattle.std.specs.Prelude.{◌≡◌};
 
-use cd_value::{Sequence, Text};
-use std::alloc::{AllocError, AllocFailed};
+use cd_value::{Memory, Sequence, Text, TryCopy};
+use std::alloc::{AllocError, AllocFailed, Global};
 
 /// A word of a line.
 #[derive(Drop)]
@@ -12,6 +12,16 @@ pub struct Word {
     pub text: Text,
     /// The byte place in the line of the word's first byte, which may be a quote.
     pub start: u64,
+}
+
+impl TryCopy for Word {
+    fn copy(&self, alloc: Global) -> Result<Word, Memory> {
+        let text = self.text.copy(alloc)?;
+        Ok(Word {
+            text,
+            start: self.start,
+        })
+    }
 }
 
 /// Words in order.

@@ -1,5 +1,5 @@
 -- The types of types.db(5), and which value lists fit them.
-use Rattle.std.specs.Prelude.{ℕ, ◌^◌, ℤ, pos, nat_abs, Bool, true, false, ◌&&◌, nat_le, ◌==◌, List, [], ◌∷◌, length, Option, Some, None, codes}
+use Rattle.std.specs.Prelude.{ℕ, ℤ, pos, nat_abs, Bool, true, false, ◌&&◌, nat_le, ◌==◌, List, [], ◌∷◌, length, Option, Some, None, codes}
 use Rattle.std.specs.List.{find, list_all, zip}
 use Rattle.std.specs.Str.{bytes_eq}
 use Rattle.cd_value.specs.declared.data.DataSet.{DataSet}
@@ -9,6 +9,7 @@ use Rattle.cd_value.specs.declared.data.DsType.TheVariants as kinds
 use Rattle.cd_value.specs.declared.data.Value.{Value}
 use Rattle.cd_value.specs.declared.data.Value.TheVariants.{Counter, Gauge, Derive, Absolute}
 use Rattle.cd_value.specs.declared.data.ValueList.{ValueList}
+use Rattle.cd_value.specs.declared.numbers.TheConstants.{NUMBER_LIMIT}
 
 -- the kind of a value
 abbrev pub kind_of : Value → DsType
@@ -24,9 +25,9 @@ is_same_kind kinds.Derive kinds.Derive = true
 is_same_kind kinds.Absolute kinds.Absolute = true
 is_same_kind _ _ = false
 
--- a known gauge is at most 10^30 millionths in magnitude
+-- a known gauge is at most the limit in magnitude
 abbrev pub is_in_range : Value → Bool
-is_in_range (Gauge (Some level)) = nat_le (nat_abs level) (10 ^ 30)
+is_in_range (Gauge (Some level)) = nat_le (nat_abs level) NUMBER_LIMIT
 is_in_range _ = true
 
 abbrev pub fits_source : DataSource → Value → Bool
@@ -45,14 +46,16 @@ set_named name sets = find (λ set. bytes_eq set.name name) sets
 
 -- the list's type is known, and the list fits it
 abbrev pub fits : List DataSet → ValueList → Bool
-fits sets list = elim (set_named list.id.type_name sets) [ None ↦ false | Some set ↦ fits_set set list ]
+fits sets list =
+    elim (set_named list.id.type_name sets) [ None ↦ false | Some set ↦ fits_set set list ]
 
 -- ---- the built-in types
 
 -- a set of that name with one source, "value", without a greatest rate
 abbrev pub single : List ℕ → DsType → Option ℤ → DataSet
 single name kind min =
-    record { name = name; sources = record { name = codes "value"; kind = kind; min = min; max = None } ∷ [] }
+    let source : DataSource = record { name = codes "value"; kind = kind; min = min; max = None } in
+    record { name = name; sources = source ∷ [] }
 
 unfoldable pub builtin : List DataSet
 builtin =

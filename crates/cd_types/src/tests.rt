@@ -1,7 +1,8 @@
 //! Cases worked by hand from the rules.
-use crate::{TypesDb, fits_set, kind_of};
+use crate::TypesDb;
+use crate::fit::fits_set;
 use cd_value::{
-    DataSet, DataSource, DsType, IdFault, Identifier, Sequence, Text, Value, ValueList,
+    DataSet, DataSource, DsType, IdFault, Identifier, Memory, Sequence, Text, Value, ValueList,
 };
 use std::alloc::Global;
 use std::test::Fail;
@@ -9,17 +10,26 @@ use std::test::Fail;
 /// 10^30.
 const MOST: i128 = 1_000_000_000_000_000_000_000_000_000_000;
 
-fn list(alloc: Global, name: &str, values: &[Value]) -> Result<ValueList, IdFault> {
+/// A list of up to two values.
+fn list(
+    alloc: Global,
+    name: &str,
+    first: Option<Value>,
+    second: Option<Value>,
+) -> Result<ValueList, IdFault> {
     let id = Identifier::read(alloc, name)?;
-    let mut list = Sequence::new(alloc);
-    for value in values {
-        list.push(*value)?;
+    let mut values = Sequence::new(alloc);
+    if let Some(value) = first {
+        values.push(value)?;
+    }
+    if let Some(value) = second {
+        values.push(value)?;
     }
     Ok(ValueList {
         id,
         time: 0,
         interval: 0,
-        values: list,
+        values,
     })
 }
 
@@ -42,35 +52,40 @@ fn knows_four_types(rt: HostRuntime) -> Result<(), Fail> {
         }
     }
     for name in ["load", "gaug", "gauge2", "GAUGE", ""] {
-        assert!(rt; types.get(name).is_none() && types.get_bytes(name.as_bytes()).is_none());
+        assert!(rt; types.get(name).is_none());
     }
     Ok(())
 }
 
 #[test]
-fn fits_lists(rt: HostRuntime) -> Result<(), Fail> {
+fn fits_built_in_sets(rt: HostRuntime) -> Result<(), Fail> {
     use Value::{Absolute, Counter, Derive, Gauge};
     let alloc = rt.alloc();
     let types = TypesDb::builtin(alloc)?;
-    for (name, values, want) in [
-        ("h/p/gauge", [Gauge(Some(MOST))].as_slice(), true),
-        ("h/p/gauge", [Gauge(Some(-MOST))].as_slice(), true),
-        ("h/p/gauge", [Gauge(Some(MOST + 1))].as_slice(), false),
-        ("h/p/gauge", [Gauge(Some(-MOST - 1))].as_slice(), false),
-        ("h/p/gauge-x", [Gauge(None)].as_slice(), true),
-        ("h/p/gauge", [Derive(1)].as_slice(), false),
-        ("h/p/gauge", [].as_slice(), false),
-        ("h/p/gauge", [Gauge(None), Gauge(None)].as_slice(), false),
-        ("h/p/derive", [Derive(i64::MIN)].as_slice(), true),
-        ("h/p/derive", [Gauge(None)].as_slice(), false),
-        ("h/p/counter", [Counter(u64::MAX)].as_slice(), true),
-        ("h/p/counter", [Absolute(1)].as_slice(), false),
-        ("h/p/absolute", [Absolute(0)].as_slice(), true),
-        ("h/p/absolute", [Counter(1)].as_slice(), false),
-        ("h/p/load", [Gauge(None)].as_slice(), false),
+    for (name, value, want) in [
+        ("h/p/gauge", Gauge(Some(MOST)), true),
+        ("h/p/gauge", Gauge(Some(-MOST)), true),
+        ("h/p/gauge", Gauge(Some(MOST + 1)), false),
+        ("h/p/gauge", Gauge(Some(-MOST - 1)), false),
+        ("h/p/gauge-x", Gauge(None), true),
+        ("h/p/gauge", Derive(1), false),
+        ("h/p/derive", Derive(i64::MIN), true),
+        ("h/p/derive", Gauge(None), false),
+        ("h/p/counter", Counter(u64::MAX), true),
+        ("h/p/counter", Absolute(1), false),
+        ("h/p/absolute", Absolute(0), true),
+        ("h/p/absolute", Counter(1), false),
+        ("h/p/load", Gauge(None), false),
     ] {
-        assert_eq!(rt; types.fits(&list(alloc, name, values)?), want, "at {name}");
+        let list = list(alloc, name, Some(value), None)?;
+        assert_eq!(rt; types.fits(&list), want, "at {name}");
     }
+    assert!(rt; !types.fits(&list(alloc, "h/p/gauge", None, None)?));
+    Ok(())
+}
+
+/// A set of a derive and a gauge.
+fn link(alloc: Global) -> Result<DataSet, Memory> {
     let mut sources = Sequence::new(alloc);
     for (name, kind) in [("rx", DsType::Derive), ("rate", DsType::Gauge)] {
         let name = Text::of(alloc, name)?;
@@ -81,27 +96,24 @@ fn fits_lists(rt: HostRuntime) -> Result<(), Fail> {
             max: None,
         })?;
     }
-    let set = DataSet {
-        name: Text::of(alloc, "link")?,
-        sources,
-    };
-    for (name, values, want) in [
-        ("h/p/link", [Derive(1), Gauge(None)].as_slice(), true),
-        ("h/p/link", [Gauge(None), Derive(1)].as_slice(), false),
-        (
-            "h/p/link",
-            [Derive(1), Gauge(Some(MOST + 1))].as_slice(),
-            false,
-        ),
-        ("h/p/link", [Derive(1)].as_slice(), false),
-        ("h/p/other", [Derive(1), Gauge(None)].as_slice(), false),
+    let name = Text::of(alloc, "link")?;
+    Ok(DataSet { name, sources })
+}
+
+#[test]
+fn fits_sets_of_two(rt: HostRuntime) -> Result<(), Fail> {
+    use Value::{Derive, Gauge};
+    let alloc = rt.alloc();
+    let set = link(alloc)?;
+    for (name, first, second, want) in [
+        ("h/p/link", Derive(1), Some(Gauge(None)), true),
+        ("h/p/link", Gauge(None), Some(Derive(1)), false),
+        ("h/p/link", Derive(1), Some(Gauge(Some(MOST + 1))), false),
+        ("h/p/link", Derive(1), None, false),
+        ("h/p/other", Derive(1), Some(Gauge(None)), false),
     ] {
-        assert_eq!(rt;
-            fits_set(&set, &list(alloc, name, values)?),
-            want,
-            "at {name}"
-        );
+        let list = list(alloc, name, Some(first), second)?;
+        assert_eq!(rt; fits_set(&set, &list), want, "at {name}");
     }
-    assert_eq!(rt; kind_of(&Absolute(1)), DsType::Absolute);
     Ok(())
 }

@@ -1,5 +1,5 @@
 -- Texts cut at the first byte that passes a test.
-use Rattle.std.proofs.Common.{◌≡◌, ℕ, suc, ◌+◌, ◌<◌, Bool, true, false, not, cond, List, [], ◌∷◌, length, take, drop, refl, ap, sym, ◌∙◌, arith, zero, Bor}
+use Rattle.std.proofs.Common.{◌≡◌, ℕ, suc, ◌+◌, ◌<◌, Bool, true, false, not, cond, List, [], ◌∷◌, ◌++◌, length, take, drop, refl, ap, sym, ◌∙◌, arith, zero, Bor}
 use Rattle.std.specs.Prelude.{count_by, MatchOption, Option, Some, None}
 use Rattle.std.specs.List.{list_any, position_or_len, before_first, after_first}
 use Rattle.std.proofs.lemmas.Bool.{or_parts}
@@ -62,3 +62,17 @@ list_any_before_first p (x ∷ xs) = step (p x) refl (list_any_before_first p xs
     step false e rest =
         let place : 1 + position_or_len p xs ≡ suc (position_or_len p xs) = omega arith in
         rw (place, e) rest
+
+-- the first that passes stands behind a text of which none does
+pub place_behind : (p : ℕ → Bool) (xs : List ℕ) (y : ℕ) (ys : List ℕ) → list_any p xs ≡ false → p y ≡ true → position_or_len p (xs ++ y ∷ ys) ≡ length xs
+place_behind p [] y ys none e = rw e refl
+place_behind p (x ∷ xs) y ys none e =
+    let both = or_parts (p x) (list_any p xs) none in
+    rw both.0 (omega (arith, place_behind p xs y ys both.1 e))
+
+-- where none passes there is no place
+pub place_none : (p : ℕ → Bool) (xs : List ℕ) → list_any p xs ≡ false → position_or_len p xs ≡ length xs
+place_none p [] none = refl
+place_none p (x ∷ xs) none =
+    let both = or_parts (p x) (list_any p xs) none in
+    rw both.0 (omega (arith, place_none p xs both.1))

@@ -8,24 +8,12 @@ use Rattle.std.proofs.Math.Bool.{or-false}
 use Rattle.cd_value.specs.declared.identifier.IdFault.TheVariants.{BadIdentifier, FieldTooLong}
 use Rattle.std.proofs.Math.ListN.{drop_of_length-le}
 use Rattle.std.proofs.lemmas.List.Folds.{list_any-append}
-use Rattle.std.proofs.lemmas.Bool.{or_parts, and_parts, le-ltb, eqb-true}
+use Rattle.std.proofs.lemmas.Bool.{and_parts, le-ltb, eqb-true}
 use Rattle.cd_value.specs.Identifier.{Fields, is_control, is_slash, is_dash, is_empty, is_type_byte, is_identifier, plugin_part, type_part, fields_of, has_bad_field, has_long_field, is_bad_text, read_identifier, dashed, name_of, as_named, read_of_name}
 use Rattle.cd_value.proofs.Readable.{IsWhole, whole, field_lengths}
-use Rattle.cd_value.proofs.Cuts.{count_by_after_first}
+use Rattle.cd_value.proofs.Cuts.{count_by_after_first, place_behind, place_none}
 
 -- ---- a text cut at a byte that passes
-
-place_behind : (p : ℕ → Bool) (xs : List ℕ) (y : ℕ) (ys : List ℕ) → list_any p xs ≡ false → p y ≡ true → position_or_len p (xs ++ y ∷ ys) ≡ length xs
-place_behind p [] y ys none e = rw e refl
-place_behind p (x ∷ xs) y ys none e =
-    let both = or_parts (p x) (list_any p xs) none in
-    rw both.0 (omega (arith, place_behind p xs y ys both.1 e))
-
-place_none : (p : ℕ → Bool) (xs : List ℕ) → list_any p xs ≡ false → position_or_len p xs ≡ length xs
-place_none p [] none = refl
-place_none p (x ∷ xs) none =
-    let both = or_parts (p x) (list_any p xs) none in
-    rw both.0 (omega (arith, place_none p xs both.1))
 
 place_within : (p : ℕ → Bool) (xs ys : List ℕ) → list_any p xs ≡ true → (position_or_len p (xs ++ ys) ≡ position_or_len p xs) × (position_or_len p xs < length xs)
 place_within p [] ys some = absurd (cc)

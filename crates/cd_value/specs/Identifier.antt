@@ -2,6 +2,7 @@
 use Rattle.std.specs.Prelude.{ℕ, Bool, true, false, not, ◌&&◌, ◌||◌, ◌==◌, nat_le, nat_lt, List, [], ◌∷◌, ◌++◌, length, count_by, Result, Ok, Err, if◌then◌else◌}
 use Rattle.std.specs.List.{list_all, list_any, before_first, after_first}
 use Rattle.cd_value.specs.declared.identifier.IdFault.{IdFault}
+use Rattle.cd_value.specs.declared.numbers.TheConstants.{FIELD_LIMIT}
 use Rattle.cd_value.specs.declared.identifier.IdFault.TheVariants.{BadIdentifier, FieldTooLong}
 
 -- an identifier as contracts see it: its five fields
@@ -16,31 +17,47 @@ pub record Fields : Type 0 where
 abbrev pub is_control : ℕ → Bool
 is_control byte = nat_lt byte 32 || byte == 127
 
+abbrev pub has_control : List ℕ → Bool
+has_control text = list_any is_control text
+
 abbrev pub is_slash : ℕ → Bool
 is_slash byte = byte == 47
 
+abbrev pub has_slash : List ℕ → Bool
+has_slash text = list_any is_slash text
+
+abbrev pub is_dash : ℕ → Bool
+is_dash byte = byte == 45
+
+abbrev pub has_dash : List ℕ → Bool
+has_dash text = list_any is_dash text
+
 -- a letter, a digit or an underscore
 abbrev pub is_type_byte : ℕ → Bool
-is_type_byte byte = (nat_le 48 byte && nat_le byte 57) || (nat_le 65 byte && nat_le byte 90) || (nat_le 97 byte && nat_le byte 122) || byte == 95
+is_type_byte byte =
+    (nat_le 48 byte && nat_le byte 57) || (nat_le 65 byte && nat_le byte 90)
+    || (nat_le 97 byte && nat_le byte 122) || byte == 95
 
 abbrev pub is_empty : List ℕ → Bool
 is_empty [] = true
 is_empty (byte ∷ bytes) = false
 
--- a field has no control character, and at most 127 bytes
+-- a text has more bytes than a field may have
+abbrev pub is_long : List ℕ → Bool
+is_long text = nat_lt FIELD_LIMIT (length text)
+
+-- a field has no control character, and isn't too long
 abbrev pub is_field : List ℕ → Bool
-is_field bytes = not (list_any is_control bytes) && nat_le (length bytes) 127
+is_field text = not (has_control text) && nat_le (length text) FIELD_LIMIT
 
 -- the five fields make an identifier
 abbrev pub is_identifier : Fields → Bool
 is_identifier id =
-    is_field id.host && is_field id.plugin && is_field id.plugin_instance && is_field id.type_name && is_field id.type_instance
+    is_field id.host && is_field id.plugin && is_field id.plugin_instance
+    && is_field id.type_name && is_field id.type_instance
     && not (is_empty id.host) && not (is_empty id.plugin) && not (is_empty id.type_name)
-    && not (list_any is_slash id.host) && not (list_any is_slash id.plugin) && not (list_any is_slash id.plugin_instance)
+    && not (has_slash id.host) && not (has_slash id.plugin) && not (has_slash id.plugin_instance)
     && list_all is_type_byte id.type_name
-
-abbrev pub is_dash : ℕ → Bool
-is_dash byte = byte == 45
 
 -- what stands between the first and the second slash of a text
 abbrev pub plugin_part : List ℕ → List ℕ
@@ -50,7 +67,8 @@ plugin_part text = before_first is_slash (after_first is_slash text)
 abbrev pub type_part : List ℕ → List ℕ
 type_part text = after_first is_slash (after_first is_slash text)
 
--- the fields of a text: the host ends at the first slash, and an instance begins after the first dash of its part
+-- the fields of a text: the host ends at the first slash, and an instance begins after the first
+-- dash of its part
 abbrev pub fields_of : List ℕ → Fields
 fields_of text = record {
   host = before_first is_slash text;
@@ -62,19 +80,21 @@ fields_of text = record {
 
 -- the host, the plugin or the type is empty, or the type has a character that it may not have
 abbrev pub has_bad_field : Fields → Bool
-has_bad_field id = is_empty id.host || is_empty id.plugin || is_empty id.type_name || not (list_all is_type_byte id.type_name)
+has_bad_field id =
+    is_empty id.host || is_empty id.plugin || is_empty id.type_name
+    || not (list_all is_type_byte id.type_name)
 
 -- a text is no identifier, whatever the lengths of its fields
 abbrev pub is_bad_text : List ℕ → Bool
-is_bad_text text = nat_lt (count_by is_slash text) 2 || list_any is_control text || has_bad_field (fields_of text)
+is_bad_text text =
+    nat_lt (count_by is_slash text) 2 || has_control text || has_bad_field (fields_of text)
 
--- a field has more than 127 bytes
 abbrev pub has_long_field : Fields → Bool
 has_long_field id =
-    nat_lt 127 (length id.host) || nat_lt 127 (length id.plugin) || nat_lt 127 (length id.plugin_instance)
-    || nat_lt 127 (length id.type_name) || nat_lt 127 (length id.type_instance)
+    is_long id.host || is_long id.plugin || is_long id.plugin_instance
+    || is_long id.type_name || is_long id.type_instance
 
--- a text would be an identifier, but for a field of more than 127 bytes
+-- a text would be an identifier, but for a field that is too long
 abbrev pub is_long_text : List ℕ → Bool
 is_long_text text = not (is_bad_text text) && has_long_field (fields_of text)
 
@@ -91,9 +111,12 @@ dashed (byte ∷ bytes) = 45 ∷ byte ∷ bytes
 
 -- the printed identifier, `host/plugin[-instance]/type[-instance]`
 abbrev pub name_of : Fields → List ℕ
-name_of id = id.host ++ 47 ∷ [] ++ id.plugin ++ dashed id.plugin_instance ++ 47 ∷ [] ++ id.type_name ++ dashed id.type_instance
+name_of id =
+    id.host ++ 47 ∷ [] ++ id.plugin ++ dashed id.plugin_instance
+    ++ 47 ∷ [] ++ id.type_name ++ dashed id.type_instance
 
--- an identifier as its name shows it: what stands behind a first dash in the plugin moves to the plugin instance
+-- an identifier as its name shows it: what stands behind a first dash in the plugin moves to the
+-- plugin instance
 abbrev pub as_named : Fields → Fields
 as_named id = record {
   host = id.host;
@@ -103,8 +126,9 @@ as_named id = record {
   type_instance = id.type_instance;
 }
 
--- what the name of an identifier reads as: the identifier as its name shows it, where the moved fields make one
+-- what the name of an identifier reads as: the identifier as its name shows it, where the moved
+-- fields make one
 abbrev pub read_of_name : Fields → Result Fields IdFault
 read_of_name id =
     if is_empty (as_named id).plugin then Err BadIdentifier
-    else (if nat_lt 127 (length (as_named id).plugin_instance) then Err FieldTooLong else Ok (as_named id))
+    else (if is_long (as_named id).plugin_instance then Err FieldTooLong else Ok (as_named id))

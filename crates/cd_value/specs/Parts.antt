@@ -1,9 +1,10 @@
 -- The parts of an identifier's text, and its faults.
-use Rattle.std.specs.Prelude.{◌≡◌, ℕ, List, Err}
+use Rattle.std.specs.Prelude.{◌≡◌, ◌+◌, ℕ, List, Err, count_by}
+use Rattle.std.specs.List.{before_first, after_first}
 use Rattle.cd_value.specs.declared.identifier.IdFault.{IdFault}
 use Rattle.cd_value.specs.declared.identifier.IdFault.TheVariants.{BadIdentifier, FieldTooLong, Memory}
 use Rattle.cd_value.specs.declared.identifier.Parts.{Parts}
-use Rattle.cd_value.specs.Identifier.{Fields, read_identifier}
+use Rattle.cd_value.specs.Identifier.{Fields, is_slash, read_identifier}
 
 -- the fields that stand in parts of a text
 abbrev pub shown : Parts → Fields
@@ -20,3 +21,9 @@ abbrev pub IsFaultOf : List ℕ → IdFault → Type 0
 IsFaultOf text Memory = Unit {0}
 IsFaultOf text BadIdentifier = read_identifier text ≡ Err BadIdentifier
 IsFaultOf text FieldTooLong = read_identifier text ≡ Err FieldTooLong
+
+-- a text with a slash is cut at the first: what stands before it, and what stands behind it
+abbrev pub IsCutAtSlash : List ℕ → List ℕ → List ℕ → Type 0
+IsCutAtSlash text before behind =
+    (before ≡ before_first is_slash text) × (behind ≡ after_first is_slash text)
+    × (count_by is_slash text ≡ 1 + count_by is_slash behind)

@@ -10,7 +10,9 @@ digit n = 48 + n % 10
 
 -- six digits, with zeros in front
 abbrev pub six_digits : ℕ → List ℕ
-six_digits n = digit (n / 100000) ∷ digit (n / 10000) ∷ digit (n / 1000) ∷ digit (n / 100) ∷ digit (n / 10) ∷ digit n ∷ []
+six_digits n =
+    digit (n / 100000) ∷ digit (n / 10000) ∷ digit (n / 1000)
+    ∷ digit (n / 100) ∷ digit (n / 10) ∷ digit n ∷ []
 
 -- the whole units, a dot and six decimals
 abbrev pub unsigned_text : ℕ → List ℕ

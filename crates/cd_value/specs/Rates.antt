@@ -5,14 +5,15 @@ use Rattle.cd_value.specs.declared.data.Value.TheVariants.{Counter, Gauge, Deriv
 use Rattle.cd_value.specs.declared.data.DataSource.{DataSource}
 use Rattle.cd_value.specs.declared.data.Rate.{Rate}
 use Rattle.cd_value.specs.declared.data.Rate.TheVariants.{Known, Unknown}
+use Rattle.cd_value.specs.declared.numbers.TheConstants.{SECOND, WRAP_OF_32_BITS}
 
 -- a rate is known, and its denominator isn't 0
 abbrev pub is_known : Rate → Bool
 is_known (Known num den) = not (den == 0)
 is_known Unknown = false
 
--- a fraction is at least, or at most, a bound by the products of whole numbers, which have no limit; an unknown rate,
--- as which a denominator of 0 reads, is neither
+-- a fraction is at least, or at most, a bound by the products of whole numbers, which have no
+-- limit; an unknown rate, as which a denominator of 0 reads, is neither
 abbrev pub at_least : Rate → ℤ → Bool
 at_least (Known num den) bound = not (den == 0) && int_le (bound *ℤ pos den) num
 at_least Unknown bound = false
@@ -38,15 +39,17 @@ abbrev pub IsCutOf : Rate → ℤ → Type 0
 IsCutOf (Known num den) m = IsCut num den m
 IsCutOf Unknown m = ⊥
 
--- a change over dt units of 2^-30 seconds, in millionths per second
+-- a change over a time, in millionths per second
 abbrev pub per_second : ℤ → ℕ → Rate
-per_second change dt = if dt == 0 then Unknown else Known (change *ℤ pos (10 ^ 6 * 2 ^ 30)) dt
+per_second change dt = if dt == 0 then Unknown else Known (change *ℤ pos (10 ^ 6 * SECOND)) dt
 
--- how far a counter has come, where a smaller value means that it wrapped, at 2^32 if it was below that
+-- where a counter wraps that stood at a value
+abbrev pub wrap_of : ℕ → ℕ
+wrap_of from = if nat_lt from WRAP_OF_32_BITS then WRAP_OF_32_BITS else 2 ^ 64
+
+-- how far a counter has come, where a smaller value means that it wrapped
 abbrev pub counter_change : ℕ → ℕ → ℕ
-counter_change old new =
-    if nat_le old new then new - old
-    else (if nat_lt old (2 ^ 32) then 2 ^ 32 - old + new else 2 ^ 64 - old + new)
+counter_change old new = if nat_le old new then new - old else wrap_of old - old + new
 
 -- the rate before its range is looked at; only a gauge needs no earlier value
 abbrev pub rate_of_change : Option Value → Value → ℕ → Rate
@@ -66,32 +69,29 @@ abbrev pub keeps_max : Rate → Option ℤ → Bool
 keeps_max rate None = true
 keeps_max rate (Some max) = at_most rate max
 
--- a rate outside its source's range is unknown
-abbrev pub in_range : DataSource → Rate → Rate
-in_range source rate = if reaches_min rate source.min && keeps_max rate source.max then rate else Unknown
-
--- a rate that is known is within its source's range
+-- a rate is within its source's range
 abbrev pub is_within : DataSource → Rate → Bool
 is_within source rate = reaches_min rate source.min && keeps_max rate source.max
+
+-- a rate outside its source's range is unknown
+abbrev pub in_range : DataSource → Rate → Rate
+in_range source rate = if is_within source rate then rate else Unknown
 
 abbrev pub is_gauge : Value → Bool
 is_gauge (Gauge level) = true
 is_gauge _ = false
 
--- where a counter wraps that stood at a value
-abbrev pub wrap_of : ℕ → ℕ
-wrap_of from = if nat_lt from (2 ^ 32) then 2 ^ 32 else 2 ^ 64
-
--- a count leads a counter from one value to another, where it wraps once if it stands lower than before
+-- a count leads a counter from one value to another, where it wraps once if it stands lower then
 abbrev pub LeadsTo : ℕ → ℕ → ℕ → Type 0
 LeadsTo from count to = from + count ≡ (if nat_le from to then to else to + wrap_of from)
 
--- of a counter, a rate that is known is a count by the time, where the count leads from the old value to the new
+-- of a counter, a rate that is known is a count by the time, where the count leads from the old
+-- value to the new
 abbrev pub IsOfCount : Option Value → Value → ℕ → Rate → Type 0
 IsOfCount (Some (Counter from)) (Counter to) dt (Known num den) =
-    (count : ℕ) × LeadsTo from count to × (num ≡ pos (count * (10 ^ 6 * 2 ^ 30))) × (den ≡ dt)
+    (count : ℕ) × LeadsTo from count to × (num ≡ pos (count * (10 ^ 6 * SECOND))) × (den ≡ dt)
 IsOfCount _ _ _ _ = Unit {0}
 
--- the rate of a value against the one before it, which was dt units of 2^-30 seconds earlier
+-- the rate of a value against the one before it, which came dt earlier
 abbrev pub rate_of : DataSource → Option Value → Value → ℕ → Rate
 rate_of source old new dt = in_range source (rate_of_change old new dt)

@@ -1,6 +1,4 @@
-// Data sets, values, value lists, notifications and requests.
-ghost use Rattle.std.specs.Prelude.{◌≡◌, IfOk};
-
+//! Data sets, values, value lists, notifications and requests.
 use crate::{Identifier, Memory, Names, Sources, Text, TryCopy, Values};
 use std::alloc::Global;
 
@@ -38,8 +36,8 @@ pub enum Value {
     Absolute(u64),
 }
 
-/// A rate of `num / den` millionths per second, for a gauge `num / den` millionths, or an unknown one. With a `den` of 0
-/// it is read as unknown.
+/// A rate of `num / den` millionths per second, for a gauge `num / den` millionths, or an unknown
+/// one. With a `den` of 0 it is read as unknown.
 #[derive(Clone, Copy, Debug)]
 pub enum Rate {
     Known { num: i128, den: u64 },
@@ -76,7 +74,8 @@ pub struct Notification {
     pub message: Text,
 }
 
-/// A request of FLUSH: the plugins and the names that it is for (none for all), and the timeout in units of 2^-30 s.
+/// A request of FLUSH, as in collectd-unixsock(5): the plugins and the names that it is for (none
+/// for all), and the timeout in 2^-30 s.
 #[derive(Drop)]
 pub struct FlushRequest {
     pub plugins: Names,
@@ -89,6 +88,12 @@ pub struct FlushRequest {
 pub enum Offered {
     Kept,
     Dropped,
+}
+
+impl TryCopy for Offered {
+    fn copy(&self, _alloc: Global) -> Result<Offered, Memory> {
+        Ok(*self)
+    }
 }
 
 impl TryCopy for Value {
@@ -111,6 +116,26 @@ impl TryCopy for DataSource {
             kind: self.kind,
             min: self.min,
             max: self.max,
+        })
+    }
+}
+
+impl TryCopy for DataSet {
+    fn copy(&self, alloc: Global) -> Result<DataSet, Memory> {
+        let name = self.name.copy(alloc)?;
+        let sources = self.sources.copy(alloc)?;
+        Ok(DataSet { name, sources })
+    }
+}
+
+impl TryCopy for FlushRequest {
+    fn copy(&self, alloc: Global) -> Result<FlushRequest, Memory> {
+        let plugins = self.plugins.copy(alloc)?;
+        let names = self.names.copy(alloc)?;
+        Ok(FlushRequest {
+            plugins,
+            names,
+            timeout: self.timeout,
         })
     }
 }

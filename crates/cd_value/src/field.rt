@@ -1,19 +1,15 @@
-// Texts made fit to be fields of an identifier.
-ghost use Rattle.std.specs.List.{list_any};
+//! Texts made fit to be fields of an identifier.
 ghost use Rattle.std.specs.Prelude.{◌≡◌, ◌<◌, ◌≤◌, ℕ, false, length, take, map, IfOk, IsTrue};
 ghost use Rattle.std.specs.Str.{IsCharBoundary};
 ghost use Rattle.cd_value.specs.Clean.{clean_byte, clean_field, field_or_old, is_clean, longest_front};
-ghost use Rattle.cd_value.specs.Identifier.{is_empty, is_field, is_slash};
+ghost use Rattle.cd_value.specs.Identifier.{has_slash, is_control, is_empty, is_field};
 
-use crate::{Memory, Text, TryCopy};
+use crate::{FIELD_LIMIT, Memory, Text, TryCopy};
 use std::alloc::Global;
 
-/// The most bytes that a field of an identifier has.
-const FIELD_LIMIT: usize = 127;
-
-/// A text as a field of an identifier: control characters, and `/` where `slash` is true, become `_`, and of the result
-/// the longest front of at most 127 bytes is kept that ends at a character. Where that is empty and a field is needed, it
-/// is a copy of the old field. So from an old field that may stand in an identifier comes one that may.
+/// A text made fit to be a field of an identifier: control characters, and `/` where `slash` is
+/// true, become `_`, and of the result the longest front of at most `FIELD_LIMIT` bytes is kept that
+/// ends at a character. Where that is empty and `needed` is true, the field is a copy of the old one.
 pub fn clean(
     alloc: Global,
     text: Text,
@@ -21,10 +17,13 @@ pub fn clean(
     old: &Text,
     needed: bool,
 ) -> Result<Text, Memory>
-    ensures value { IfOk result (λ field. field ≡ field_or_old needed old.now (clean_field slash text)) }
+    ensures value { let cleaned = clean_field slash text in
+        IfOk result (λ field. field ≡ field_or_old needed old.now cleaned) }
     ensures field { IsTrue (is_field old.now) → IfOk result (λ field. IsTrue (is_field field)) }
-    ensures without_slash { IsTrue slash → list_any is_slash old.now ≡ false → IfOk result (λ field. list_any is_slash field ≡ false) }
-    ensures needed { IsTrue needed → is_empty old.now ≡ false → IfOk result (λ field. is_empty field ≡ false) }
+    ensures without_slash { IsTrue slash → has_slash old.now ≡ false →
+        IfOk result (λ field. has_slash field ≡ false) }
+    ensures needed { IsTrue needed → is_empty old.now ≡ false →
+        IfOk result (λ field. is_empty field ≡ false) }
     ensures kept { IsTrue (is_clean slash needed text) → IfOk result (λ field. field ≡ text) }
 {
     let field = clean_text(text, slash);
@@ -40,7 +39,8 @@ pub fn longest_front(text: &str, limit: usize) -> &str
     ensures value { result.now ≡ longest_front limit text.now }
     ensures short { length result.now ≤ limit }
     ensures front { result.now ≡ take (length result.now) text.now }
-    ensures longest { (place : ℕ) → place ≤ limit → IsCharBoundary text.now place → place ≤ length result.now }
+    ensures longest { (place : ℕ) → place ≤ limit → IsCharBoundary text.now place →
+        place ≤ length result.now }
 {
     &text[..front_len(text, limit)]
 }
@@ -57,7 +57,7 @@ fn front_len(text: &str, limit: usize) -> usize
 fn clean_text(text: Text, slash: bool) -> Text
     ensures value { result ≡ clean_field slash text }
     ensures field { IsTrue (is_field result) }
-    ensures without_slash { IsTrue slash → list_any is_slash result ≡ false }
+    ensures without_slash { IsTrue slash → has_slash result ≡ false }
     ensures kept { IsTrue (is_clean slash false text) → result ≡ text }
 {
     let bytes = clean_bytes(text.into_string().into_bytes(), slash);
@@ -75,10 +75,17 @@ fn clean_bytes(mut bytes: Vec<u8>, slash: bool) -> Vec<u8>
     bytes
 }
 
+/// Whether a byte is a control character of ASCII.
+pub(crate) fn is_control(byte: u8) -> bool
+    ensures { result ≡ is_control byte }
+{
+    byte < 32 || byte == 127
+}
+
 fn clean_byte(byte: u8, slash: bool) -> u8
     ensures { result ≡ clean_byte slash byte }
 {
-    if byte < 32 || byte == 127 || (slash && byte == b'/') {
+    if is_control(byte) || (slash && byte == b'/') {
         b'_'
     } else {
         byte

@@ -1,20 +1,21 @@
-// The identifier of a value list.
-ghost use Rattle.std.specs.Prelude.{◌≡◌, ◌<◌, ◌≤◌, ◌+◌, ◌++◌, ◌↔◌, not, IsTrue, IfOk, IfErr, OnOk, MatchOption, count_by};
-ghost use Rattle.std.specs.List.{before_first, after_first, list_all, list_any};
-ghost use Rattle.cd_value.specs.Parts.{IsFaultOf, shown};
-ghost use Rattle.cd_value.specs.Identifier.{as_named, dashed, fields_of, has_bad_field, has_long_field, is_bad_text, is_control, is_dash, is_identifier, is_long_text, is_slash, is_type_byte, name_of, read_identifier, read_of_name};
+//! The identifier of a value list.
+ghost use Rattle.std.specs.Prelude.{◌≡◌, ◌<◌, ◌≤◌, ◌+◌, ◌++◌, ◌↔◌, false, IsTrue, IfOk, IfErr, OnOk, MatchOption, count_by};
+ghost use Rattle.std.specs.List.{before_first, after_first, list_all};
+ghost use Rattle.cd_value.specs.Parts.{IsCutAtSlash, IsFaultOf, shown};
+ghost use Rattle.cd_value.specs.Identifier.{as_named, dashed, fields_of, has_bad_field, has_control, has_dash, has_long_field, is_bad_text, is_dash, is_identifier, is_long_text, is_slash, is_type_byte, name_of, read_identifier, read_of_name};
 
-use crate::{Memory, Text, TryCopy};
+use crate::field::is_control;
+use crate::{FIELD_LIMIT, Memory, Text, TryCopy};
 use std::alloc::Global;
 use std::marker::Model;
 
 /// Why a text is no identifier.
 #[derive(Clone, Copy, Debug, PartialEq, Eq)]
 pub enum IdFault {
-    /// Fewer than two `/`, an empty host, plugin or type, a control character, or a type with a character other than a
-    /// letter, a digit or `_`.
+    /// Fewer than two `/`, an empty host, plugin or type, a control character, or a type with a
+    /// character other than a letter, a digit or `_`.
     BadIdentifier,
-    /// A field of more than 127 bytes.
+    /// A field of more than `FIELD_LIMIT` bytes.
     FieldTooLong,
     /// Memory was lacking.
     Memory,
@@ -30,9 +31,10 @@ impl From<Memory> for IdFault {
     }
 }
 
-/// The identifier of a value list, as in collectd-unixsock(5), "Identifiers". Its fields always make one: each has no
-/// control character and at most 127 bytes; host, plugin and type aren't empty; host, plugin and plugin instance have
-/// no `/`; the type has only letters, digits and `_`.
+/// The identifier of a value list, as in collectd-unixsock(5), "Identifiers". Its fields always
+/// make one: each has no control character and at most `FIELD_LIMIT` bytes; host, plugin and type
+/// aren't empty; host, plugin and plugin instance have no `/`; the type has only letters, digits
+/// and `_`.
 #[derive(Drop)]
 pub struct Identifier {
     pub host: Text,
@@ -48,9 +50,11 @@ impl Model for Identifier {
 
     ghost Value = { Fields };
 
-    ghost view = { λ i. record { host = i.host; plugin = i.plugin; plugin_instance = i.plugin_instance; type_name = i.type_name; type_instance = i.type_instance } };
+    ghost use Rattle.cd_value.specs.Inside.{fields};
 
-    ghost invariant = { λ i. IsTrue (is_identifier (record { host = i.host; plugin = i.plugin; plugin_instance = i.plugin_instance; type_name = i.type_name; type_instance = i.type_instance })) };
+    ghost view = { fields };
+
+    ghost invariant = { λ id. IsTrue (is_identifier (fields id)) };
 }
 
 impl TryCopy for Identifier {
@@ -71,10 +75,10 @@ impl TryCopy for Identifier {
 }
 
 impl Identifier {
-    /// Reads `host/plugin[-instance]/type[-instance]`, as in collectd-unixsock(5), "Identifiers". The host ends at the
-    /// first `/` and the plugin part at the second; the rest is the type part, whose instance may have more `/`. In the
-    /// plugin part and in the type part an instance begins after the first `-`. Printing what was read and reading that
-    /// gives it again.
+    /// Reads `host/plugin[-instance]/type[-instance]`, as in collectd-unixsock(5), "Identifiers".
+    /// The host ends at the first `/` and the plugin part at the second; the rest is the type part,
+    /// whose instance may have more `/`. In the plugin part and in the type part an instance begins
+    /// after the first `-`. Printing what was read and reading that gives it again.
     pub fn read(alloc: Global, text: &str) -> Result<Identifier, IdFault>
         ensures ok { IfOk result (λ id. read_identifier text.now ≡ Ok id) }
         ensures err { IfErr result (IsFaultOf text.now) }
@@ -94,14 +98,16 @@ impl Identifier {
         Ok(parts.own(alloc)?)
     }
 
-    /// The printed identifier, as in collectd-unixsock(5), "Identifiers": an empty instance is printed without its dash.
-    /// It is the key of the value cache, so identifiers of one name share their place there. A name reads as its
-    /// identifier again, but that a `-` in the plugin then begins the instance.
+    /// The printed identifier, as in collectd-unixsock(5), "Identifiers": an empty instance is
+    /// printed without its dash. It is the key of the value cache, so identifiers of one name share
+    /// their place there. A name reads as its identifier again, but that a `-` in the plugin then
+    /// begins the instance.
     pub fn name(&self, alloc: Global) -> Result<Text, Memory>
         ensures value { IfOk result (λ name. name ≡ name_of self.now) }
         ensures shows { IfOk result (λ name. fields_of name ≡ as_named self.now) }
         ensures reads { IfOk result (λ name. read_identifier name ≡ read_of_name self.now) }
-        ensures again { IsTrue (not (list_any is_dash self.now.plugin)) → IfOk result (λ name. read_identifier name ≡ Ok self.now) }
+        ensures again { has_dash self.now.plugin ≡ false →
+            IfOk result (λ name. read_identifier name ≡ Ok self.now) }
     {
         let mut name = Text::with_capacity(alloc, self.name_capacity())?;
         name.push(self.host.as_str())?;
@@ -135,7 +141,9 @@ struct Parts<'a> {
 impl<'a> Parts<'a> {
     /// The parts of a text that has two `/`.
     fn of(text: &'a str) -> Option<Parts<'a>>
-        ensures { MatchOption result (count_by is_slash text.now < 2) (λ parts. (2 ≤ count_by is_slash text.now) × (shown parts ≡ fields_of text.now)) }
+        ensures { let slashes = count_by is_slash text.now in
+            MatchOption result (slashes < 2)
+            (λ parts. (2 ≤ slashes) × (shown parts ≡ fields_of text.now)) }
     {
         let Some((host, rest)) = at_slash(text) else {
             return None;
@@ -166,11 +174,11 @@ impl<'a> Parts<'a> {
     fn has_long_field(self) -> bool
         ensures { result ≡ has_long_field (shown self.entry) }
     {
-        self.host.len() > 127
-            || self.plugin.len() > 127
-            || self.plugin_instance.len() > 127
-            || self.type_name.len() > 127
-            || self.type_instance.len() > 127
+        self.host.len() > FIELD_LIMIT
+            || self.plugin.len() > FIELD_LIMIT
+            || self.plugin_instance.len() > FIELD_LIMIT
+            || self.type_name.len() > FIELD_LIMIT
+            || self.type_instance.len() > FIELD_LIMIT
     }
 
     /// An identifier of its own.
@@ -206,7 +214,8 @@ fn push_instance(name: &mut Text, instance: &str) -> Result<(), Memory>
 
 /// A text before its first slash, and what stands behind it.
 fn at_slash(text: &str) -> Option<(&str, &str)>
-    ensures { MatchOption result (count_by is_slash text.now ≡ 0) (λ x. (x.0.now ≡ before_first is_slash text.now) × (x.1.now ≡ after_first is_slash text.now) × (count_by is_slash text.now ≡ 1 + count_by is_slash x.1.now)) }
+    ensures { MatchOption result (count_by is_slash text.now ≡ 0)
+        (λ x. IsCutAtSlash text.now x.0.now x.1.now) }
 {
     text.split_once('/')
 }
@@ -223,9 +232,9 @@ fn at_dash(part: &str) -> (&str, &str)
 }
 
 fn has_control(text: &str) -> bool
-    ensures { result ≡ list_any is_control text.now }
+    ensures { result ≡ has_control text.now }
 {
-    text.bytes().any(|byte| byte < 32 || byte == 127)
+    text.bytes().any(is_control)
 }
 
 fn is_type(text: &str) -> bool

@@ -1,14 +1,22 @@
-//! The plain values of the daemon: texts, identifiers, data sets, values, value lists, notifications.
+//! The plain values of the daemon: texts, identifiers, data sets, value lists, rates and
+//! notifications. It stands on std alone and takes no handle.
+//!
+//! Read first `specs/Identifier.antt` (which fields make an identifier, and which one a text is)
+//! and `specs/Rates.antt` (the rate of a value against the value before it). An `Identifier` keeps
+//! its rule by the invariant of its type; a text and a list are seen as the list that they hold.
+//! Begin a change at `data.rt`, which has the types; each other module has one kind's calls.
 #![tactic(auto)]
 
 mod data;
 mod field;
 mod identifier;
 mod memory;
+mod numbers;
 mod print;
 mod rate;
 mod sequence;
 mod text;
+mod view;
 
 pub use data::{
     DataSet, DataSource, DsType, FlushRequest, Notification, Offered, Rate, Severity, Value,
@@ -17,9 +25,11 @@ pub use data::{
 pub use field::{clean, longest_front};
 pub use identifier::{IdFault, Identifier};
 pub use memory::{Memory, Refused, TryCopy};
+pub use numbers::{FIELD_LIMIT, MESSAGE_LIMIT, NUMBER_LIMIT, SECOND, WRAP_OF_32_BITS};
 pub use print::print_millionths;
 pub use sequence::Sequence;
 pub use text::Text;
+pub use view::RateView;
 
 /// The values of a value list, one for each data source of its type.
 pub type Values = Sequence<Value>;

@@ -1,4 +1,4 @@
-// Want of memory, and values that are handed back.
+//! Want of memory, values that are handed back, and copies.
 ghost use Rattle.std.specs.Prelude.{◌≡◌, IfOk};
 
 use std::alloc::{AllocError, AllocFailed, Global};
@@ -35,4 +35,18 @@ pub trait TryCopy {
     /// An equal value.
     fn copy(&self, alloc: Global) -> Result<Self, Memory>
         ensures { IfOk result (λ copy. copy ≡ self.now) };
+}
+
+impl TryCopy for u64 {
+    fn copy(&self, _alloc: Global) -> Result<u64, Memory> {
+        Ok(*self)
+    }
+}
+
+impl<A: TryCopy + Drop, B: TryCopy> TryCopy for (A, B) {
+    fn copy(&self, alloc: Global) -> Result<(A, B), Memory> {
+        let first = self.0.copy(alloc)?;
+        let second = self.1.copy(alloc)?;
+        Ok((first, second))
+    }
 }

@@ -1,12 +1,13 @@
-// Printed numbers.
-ghost use Rattle.std.specs.Prelude.{◌≡◌, ◌++◌, ◌∷◌, [], IfOk, IsTrue, OnOk, codes, not, string_bytes};
+//! Printed numbers.
+ghost use Rattle.std.specs.Prelude.{◌≡◌, ◌++◌, ◌∷◌, [], IfOk, OnOk, codes, false, string_bytes};
 ghost use Rattle.cd_value.specs.Print.{digit, millionths_text, rate_text, six_digits};
 ghost use Rattle.cd_value.specs.Rates.{is_known};
 
 use crate::{Memory, Rate, Text};
 use std::alloc::{AllocError, Global};
 
-/// A number of millionths as its whole units, a dot and six decimals, with `-` only where it is below zero.
+/// A number of millionths as its whole units, a dot and six decimals, with `-` only where it is
+/// below zero.
 pub fn print_millionths(alloc: Global, value: i128) -> Result<Text, Memory>
     ensures { IfOk result (λ text. text ≡ millionths_text value) }
 {
@@ -22,10 +23,11 @@ pub fn print_millionths(alloc: Global, value: i128) -> Result<Text, Memory>
 }
 
 impl Rate {
-    /// The millionths of the rate, cut toward zero, as `print_millionths` prints them, or `NaN` where it is unknown.
+    /// The millionths of the rate, cut toward zero, as `print_millionths` prints them, or `NaN`
+    /// where it is unknown.
     pub fn print(&self, alloc: Global) -> Result<Text, Memory>
         ensures value { IfOk result (λ text. text ≡ rate_text self.now) }
-        ensures unknown { IsTrue (not (is_known self.now)) → IfOk result (λ text. text ≡ codes "NaN") }
+        ensures unknown { is_known self.now ≡ false → IfOk result (λ text. text ≡ codes "NaN") }
     {
         match self.millionths() {
             Some(value) => print_millionths(alloc, value),

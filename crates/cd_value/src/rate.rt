@@ -1,29 +1,27 @@
-// Rates of values against the values before them.
-ghost use Rattle.std.specs.Prelude.{◌≡◌, ◌≤◌, ◌^◌, ◌≤ℤ◌, pos, negsuc, int_le, ◌*ℤ◌, false, not, is_some, IfSome, IsNone, IsTrue};
+//! Rates of values against the values before them.
+ghost use Rattle.std.specs.Prelude.{◌≡◌, ◌≤◌, ◌^◌, ◌≤ℤ◌, pos, negsuc, int_le, ◌*ℤ◌, false, is_some, IfSome, IsNone, IsTrue};
 ghost use Rattle.std.specs.Option.{option_copied};
 ghost use Rattle.cd_value.specs.Rates.{IsCutOf, IsOfCount, LeadsTo, is_gauge, is_known, rate_of, rate_of_change};
 ghost use Rattle.cd_value.specs.Rates as rates;
 
-use crate::{DataSource, Rate, Value};
+use crate::{DataSource, Rate, SECOND, Value, WRAP_OF_32_BITS};
 
-/// The units of 2^-30 s in a second, times the millionths in one.
-const MILLIONTHS_PER_UNIT: i128 = 1_073_741_824_000_000;
-
-/// Where a counter of 32 bits wraps.
-const WRAP_OF_32_BITS: u64 = 1 << 32;
+/// A second, times the millionths in one.
+const MILLIONTHS_PER_UNIT: i128 = 1_000_000 * SECOND as i128;
 
 impl Rate {
-    /// The rate of a value of a source against the value before it, which came `dt` units of 2^-30 s earlier, as in
-    /// types.db(5) and collectd.conf(5): a gauge is its own rate; of a counter and of a derive it is the change, and of
-    /// an absolute the value, by the time. Only a gauge has a rate without an earlier value. A counter that stands lower
-    /// than before has wrapped, at 2^32 where it stood below that, and at 2^64 otherwise. A rate below the source's least
-    /// or above its greatest is unknown.
+    /// The rate of a value of a source against the value before it, which came `dt` (in 2^-30 s)
+    /// earlier, as in types.db(5) and collectd.conf(5): a gauge is its own rate; of a counter and of
+    /// a derive it is the change, and of an absolute the value, by the time. Only a gauge has a rate
+    /// without an earlier value. A counter that stands lower than before has wrapped, at 2^32 where
+    /// it stood below that, and at 2^64 otherwise. A rate below the source's least or above its
+    /// greatest is unknown.
     pub fn of(old: Option<&Value>, new: &Value, dt: u64, source: &DataSource) -> Rate
         ensures value { result ≡ rate_of source.now (option_copied old.entry) new.now dt }
         ensures range { IsTrue (is_known result) → IsTrue (rates.is_within source.now result) }
-        ensures first { IsNone old.entry → IsTrue (not (is_gauge new.now)) → result ≡ Rate.Unknown }
+        ensures first { IsNone old.entry → is_gauge new.now ≡ false → result ≡ Rate.Unknown }
         ensures wrap { IsOfCount (option_copied old.entry) new.now dt result }
-        ensures never_by_zero { IsTrue (not (is_known result)) → result ≡ Rate.Unknown }
+        ensures never_by_zero { is_known result ≡ false → result ≡ Rate.Unknown }
     {
         let rate = change(old, new, dt);
         if rate.reaches_min(source.min) && rate.keeps_max(source.max) {
@@ -36,8 +34,9 @@ impl Rate {
     /// Whether the rate is known and at most `bound` millionths, by its exact fraction.
     pub fn at_most(&self, bound: i128) -> bool
         ensures value { result ≡ rates.at_most self.now bound }
-        ensures else_above { IsTrue (is_known self.now) → result ≡ false → IsTrue (rates.at_least self.now bound) }
-        ensures unknown { IsTrue (not (is_known self.now)) → result ≡ false }
+        ensures else_above { IsTrue (is_known self.now) → result ≡ false →
+            IsTrue (rates.at_least self.now bound) }
+        ensures unknown { is_known self.now ≡ false → result ≡ false }
     {
         match self {
             Rate::Known { num, den } => *den != 0 && is_at_most(*num, *den, bound),
@@ -48,8 +47,9 @@ impl Rate {
     /// Whether the rate is known and at least `bound` millionths, by its exact fraction.
     pub fn at_least(&self, bound: i128) -> bool
         ensures value { result ≡ rates.at_least self.now bound }
-        ensures else_below { IsTrue (is_known self.now) → result ≡ false → IsTrue (rates.at_most self.now bound) }
-        ensures unknown { IsTrue (not (is_known self.now)) → result ≡ false }
+        ensures else_below { IsTrue (is_known self.now) → result ≡ false →
+            IsTrue (rates.at_most self.now bound) }
+        ensures unknown { is_known self.now ≡ false → result ≡ false }
     {
         match self {
             Rate::Known { num, den } => *den != 0 && is_at_least(*num, *den, bound),
@@ -94,7 +94,8 @@ impl Rate {
     }
 }
 
-/// Whether a fraction is at least a bound: a product that passes 128 bits is beyond every numerator on its side.
+/// Whether a fraction is at least a bound: a product that passes 128 bits is beyond every numerator
+/// on its side.
 fn is_at_least(num: i128, den: u64, bound: i128) -> bool
     requires { 1 ≤ den }
     ensures { result ≡ int_le (bound *ℤ pos den) num }

@@ -1,7 +1,8 @@
 //! Cases worked by hand from the rules.
 use crate::{
-    DataSource, DsType, IdFault, Identifier, Notification, Offered, Rate, Sequence, Severity, Text,
-    TryCopy, Value, ValueList, clean, longest_front, print_millionths,
+    DataSet, DataSource, DsType, FlushRequest, IdFault, Identifier, Memory, Names, Notification,
+    Offered, Rate, SECOND, Sequence, Severity, Sources, Text, TryCopy, Value, ValueList, clean,
+    longest_front, print_millionths,
 };
 use std::alloc::{AllocError, Global};
 use std::test::Fail;
@@ -9,9 +10,6 @@ use std::test::Fail;
 /// 127 bytes.
 const LONGEST: &str =
     "aaaaaaaaaaaaaaaaaaaaaaaaaaaaaaaaaaaaaaaaaaaaaaaaaaaaaaaaaaaaaaaaaaaaaaaaaaaaaaaaaaaaaaaaaaaaaaaaaaaaaaaaaaaaaaaaaaaaaaaaaaaaaaa";
-
-/// A second, in units of 2^-30 s.
-const SECOND: u64 = 1_073_741_824;
 
 /// The fields of an identifier and its name, or the fault.
 fn shown(alloc: Global, read: Result<Identifier, IdFault>) -> Result<String, AllocError> {
@@ -331,16 +329,74 @@ fn keeps_values(rt: HostRuntime) -> Result<(), Fail> {
     let copy = note.copy(alloc)?;
     assert_eq!(rt; copy.severity, Severity::Warning);
     assert_eq!(rt; copy.message.into_string().as_str(), "late");
-    let fates = Sequence::from_vec([Offered::Kept, Offered::Dropped].to_vec(alloc)?);
-    assert_eq!(rt; (fates.len(), fates.is_empty()), (2, false));
-    assert_eq!(rt;
-        fates.into_vec().as_slice(),
-        [Offered::Kept, Offered::Dropped].as_slice()
-    );
     let mut text = Text::with_capacity(alloc, 3)?;
     assert!(rt; text.is_empty());
     text.push("h/p")?;
     assert!(rt; Text::of(alloc, "h/a")? < text && text < Text::of(alloc, "h/p-")?);
     assert!(rt; text == Text::of(alloc, "h/p")?);
+    Ok(())
+}
+
+#[test]
+fn copies_lists(rt: HostRuntime) -> Result<(), Fail> {
+    let alloc = rt.alloc();
+    let mut sources = Sources::new(alloc);
+    sources.push(DataSource {
+        name: Text::of(alloc, "rx")?,
+        kind: DsType::Derive,
+        min: Some(0),
+        max: None,
+    })?;
+    let set = DataSet {
+        name: Text::of(alloc, "if_octets")?,
+        sources,
+    };
+    let set = set.copy(alloc)?;
+    assert_eq!(rt; (set.name.as_str(), set.sources.len()), ("if_octets", 1));
+    for source in set.sources.as_slice() {
+        assert_eq!(rt; (source.name.as_str(), source.kind), ("rx", DsType::Derive));
+        assert_eq!(rt; (source.min, source.max), (Some(0), None));
+    }
+    let mut names = Names::new(alloc);
+    names.push(Text::of(alloc, "h/p/gauge")?)?;
+    let request = FlushRequest {
+        plugins: Names::new(alloc),
+        names,
+        timeout: Some(5),
+    };
+    let request = request.copy(alloc)?;
+    assert_eq!(rt; (request.plugins.len(), request.names.len()), (0, 1));
+    assert_eq!(rt; request.timeout, Some(5));
+    let fates = Sequence::from_vec([Offered::Kept, Offered::Dropped].to_vec(alloc)?);
+    assert_eq!(rt; (fates.len(), fates.is_empty()), (2, false));
+    assert_eq!(rt;
+        fates.copy(alloc)?.into_vec().as_slice(),
+        [Offered::Kept, Offered::Dropped].as_slice()
+    );
+    Ok(())
+}
+
+/// The copy of one row.
+fn copied_row(alloc: Global) -> Result<(u64, Text), Memory> {
+    (7, Text::of(alloc, "h/p/t")?).copy(alloc)
+}
+
+#[test]
+fn copies_rows_and_rates(rt: HostRuntime) -> Result<(), Fail> {
+    let alloc = rt.alloc();
+    let mut rows = Sequence::new(alloc);
+    rows.push(copied_row(alloc)?)?;
+    let rows = rows.copy(alloc)?;
+    assert_eq!(rt; rows.len(), 1);
+    for (time, name) in rows.as_slice() {
+        assert_eq!(rt; (*time, name.as_str()), (7, "h/p/t"));
+    }
+    let mut rates = Sequence::new(alloc);
+    rates.push(Rate::Known { num: 3, den: 2 })?;
+    let rates = rates.copy(alloc)?;
+    assert_eq!(rt; rates.len(), 1);
+    for rate in rates.as_slice() {
+        assert_eq!(rt; fraction(alloc, *rate)?.as_str(), "3/2 0.000001");
+    }
     Ok(())
 }

@@ -1,4 +1,4 @@
-// Text that contracts see as the list of its bytes.
+//! Text that contracts see as the list of its bytes.
 ghost use Rattle.std.specs.Prelude.{◌≡◌, ◌==◌, ◌++◌, [], List, ℕ, length, IfOk, OnOk, OnErr, string_bytes, nat_eq};
 ghost use Rattle.std.specs.Cmp.Lexicographic.{pointwise, slice_cmp};
 ghost use Rattle.std.specs.Cmp.{partial_order_from_own_ties};
@@ -58,7 +58,8 @@ impl Ord for Text {
 impl PartialOrd for Text {
     ghost partial_cmp = { as_partial_cmp (slice_cmp nat_cmp) };
 
-    ghost laws = { partial_order_from_own_ties (Prim.search (comparing, rules)) (Prim.search (comparing, rules)) };
+    ghost laws = { partial_order_from_own_ties
+        (Prim.search (comparing, rules)) (Prim.search (comparing, rules)) };
 
     fn partial_cmp(&self, other: &Text) -> Option<Ordering> {
         Some(self.cmp(other))
@@ -86,7 +87,7 @@ impl Text {
     }
 
     /// The empty text, with room for a number of bytes.
-    pub fn with_capacity(alloc: Global, capacity: usize) -> Result<Self, Memory>
+    pub(crate) fn with_capacity(alloc: Global, capacity: usize) -> Result<Self, Memory>
         ensures { IfOk result (λ t. t ≡ []) }
     {
         let string = String::with_capacity(alloc, capacity)?;

@@ -1,6 +1,5 @@
-use Rattle.std.proofs.Common.{◌≡◌, ◌∙◌, ap, sym, map, map-id, length, take, arith}
+use Rattle.std.proofs.Common.{◌∙◌, ap, sym, map-id, length, arith}
 use Rattle.std.specs.List.{fold}
-use Rattle.std.specs.Str.{chars}
 use Rattle.std.proofs.lemmas.Iterator.{YieldsList-from_chars}
 use Rattle.std.proofs.lemmas.Iterator.Consumers.{YieldsList-end, YieldsList-turn, YieldsList-so_far}
 use Rattle.cd_text.specs.Cutting.{fed, state}

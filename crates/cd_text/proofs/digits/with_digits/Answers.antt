@@ -1,4 +1,4 @@
-use Rattle.std.proofs.Common.{◌≡◌, ◌∙◌, ap, ◌<◌, ◌≤◌, ◌+◌, ◌*◌, ◌^◌, ℕ, length, arith}
+use Rattle.std.proofs.Common.{◌+◌, length, arith}
 use Rattle.std.proofs.lemmas.Str.{digit_value_digit}
 use Rattle.cd_text.proofs.DigitRuns.{one_more, is_digit, low_more, high_more, room_for}
 use Rattle.cd_text.proofs.digits.with_digits.Goals as goal

@@ -1,4 +1,4 @@
-use Rattle.std.proofs.Common.{◌≡◌, ◌∙◌, sym, ap, ◌+◌, ◌*◌, ◌^◌, ◌≤◌, ◌<◌, ℕ, List, length, arith}
+use Rattle.std.proofs.Common.{◌∙◌, sym, ap, ℕ, length, arith}
 use Rattle.std.specs.Str.Parse.{digits_value_after}
 use Rattle.cd_text.proofs.DigitRuns.{digits_value_after-append, room_behind}
 use Rattle.cd_text.proofs.Powers.{ten_le}

@@ -1,9 +1,8 @@
-use Rattle.std.proofs.Common.{◌≡◌, ◌∙◌, ap, sym, map, map-id, List, ℕ, Ok, ◌∷◌, ◌++◌, []}
+use Rattle.std.proofs.Common.{◌≡◌, ◌∙◌, sym, map-id}
 use Rattle.std.specs.String.{string_bytes}
-use Rattle.std.specs.Str.{chars}
 use Rattle.std.proofs.lemmas.Iterator.{YieldsList-from_chars}
 use Rattle.std.proofs.lemmas.Iterator.Consumers.{YieldsList-end}
-use Rattle.cd_text.specs.Quoting.{quoted_of, words_of}
+use Rattle.cd_text.specs.Quoting.{quoted_of}
 use Rattle.cd_text.proofs.Quotes.{one_more, closed, quoted_is_one_word}
 use Rattle.cd_text.proofs.quote.quoted.Goals as goal
 

@@ -1,4 +1,4 @@
-use Rattle.std.proofs.Common.{arith, ◌≤◌, ◌*◌, ◌^◌}
+use Rattle.std.proofs.Common.{arith}
 use Rattle.cd_text.proofs.Powers.{down_all, down_far, down_near, down_none, down_few, few_small, far_small, near_small}
 use Rattle.cd_text.proofs.scale.scaled_down.Goals as goal
 

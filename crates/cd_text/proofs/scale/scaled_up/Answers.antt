@@ -1,4 +1,4 @@
-use Rattle.std.proofs.Common.{arith, ◌≤◌, ◌*◌, ◌^◌}
+use Rattle.std.proofs.Common.{arith}
 use Rattle.cd_text.proofs.Powers.{up_far, up_none, up_some, up_small}
 use Rattle.cd_text.proofs.scale.scaled_up.Goals as goal
 

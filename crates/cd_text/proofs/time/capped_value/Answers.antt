@@ -1,4 +1,4 @@
-use Rattle.std.proofs.Common.{◌≡◌, ◌+◌, ◌<◌, arith, min}
+use Rattle.std.proofs.Common.{arith}
 use Rattle.std.proofs.lemmas.Str.{digit_value_digit}
 use Rattle.cd_text.proofs.DigitRuns.{one_more, is_digit}
 use Rattle.cd_text.proofs.time.capped_value.Goals as goal

@@ -1,4 +1,4 @@
-use Rattle.std.proofs.Common.{◌≡◌, ◌<◌, ◌*◌, ◌/◌, ◌^◌, length, arith}
+use Rattle.std.proofs.Common.{length, arith}
 use Rattle.cd_text.proofs.Seconds.{numerator_small, numerator_fits, units_fit}
 use Rattle.cd_text.proofs.time.in_units.Goals as goal
 
@@ -8,8 +8,8 @@ overflow_mul-result c =
     let fits = numerator_fits c.with_digits-numerator.result (length c.args.further.now) c.requires.short small in
     omega (arith, fits)
 
-pub overflow_cast-result : goal.overflow_cast-result
-overflow_cast-result c =
+pub overflow_cast-result-2 : goal.overflow_cast-result-2
+overflow_cast-result-2 c =
     let small = numerator_small c.args.whole c.with_digits-numerator.result (length c.args.further.now) c.requires.in_range c.with_digits-numerator.ensures.high in
     let fits = units_fit c.with_digits-numerator.result c.pow.result (length c.args.further.now) small c.pow.ensures in
     omega (arith, fits)

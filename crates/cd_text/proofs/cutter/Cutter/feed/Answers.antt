@@ -1,7 +1,7 @@
-use Rattle.std.proofs.Common.{◌≡◌, refl, ◌∙◌, ap, sym, ◌+◌, ℕ, List, Option}
+use Rattle.std.proofs.Common.{◌≡◌, ◌∙◌, ap, ◌+◌, ℕ, List, Option}
 use Rattle.std.specs.Char.{len_utf8}
 use Rattle.cd_text.specs.Quoting.{adds}
-use Rattle.cd_text.specs.Cutting.{fed, state, State, part_adds, grown}
+use Rattle.cd_text.specs.Cutting.{fed, state, part_adds, grown}
 use Rattle.cd_text.proofs.Runs.{placed}
 use Rattle.cd_text.proofs.cutter.Cutter.feed.Goals as goal
 

@@ -1,7 +1,5 @@
 use Rattle.std.proofs.Common.{◌≡◌, true, ap, subst, ◌∙◌, rules}
-use Rattle.std.specs.List.{list_any}
-use Rattle.std.proofs.lemmas.Bool.{not-true}
-use Rattle.cd_value.specs.Identifier.{Fields, fields_of, is_dash, is_identifier, name_of, read_identifier}
+use Rattle.cd_value.specs.Identifier.{Fields, fields_of, is_identifier, name_of, read_identifier}
 use Rattle.cd_value.proofs.Readable.{whole}
 use Rattle.cd_value.proofs.Names.{fields_of-name_of, read_identifier-name_of, read_again}
 use Rattle.cd_value.proofs.identifier.Identifier.name.Goals as goal
@@ -22,4 +20,4 @@ pub returns-clause-again : goal.returns-clause-again
 returns-clause-again c = λ none.
     let value : c.push_instance-2.new.name ≡ name_of c.args.self.now = search rules in
     let own : is_identifier c.args.self.now ≡ true = subst (λ (id : Fields). is_identifier id ≡ true) c.self.view_is c.self.invariant in
-    ap read_identifier value ∙ read_again c.args.self.now own (not-true (list_any is_dash c.args.self.now.plugin) none)
+    ap read_identifier value ∙ read_again c.args.self.now own none

@@ -1,0 +1,26 @@
+-- What a value list brings to the entry of its name.
+use Rattle.std.specs.Prelude.{◌≡◌, ℕ, Some}
+use Rattle.std.specs.Option.{unwrap_or}
+use Rattle.cd_value.specs.declared.data.DataSet.{DataSet}
+use Rattle.cd_value.specs.declared.data.ValueList.{ValueList}
+use Rattle.cd_cache.specs.declared.entry.CacheEntry.{CacheEntry}
+use Rattle.cd_cache.specs.Cache.{renewed}
+use Rattle.cd_cache.specs.declared.renewal.Renewal.{Renewal}
+
+-- the entry that a list makes with what it brings
+abbrev pub renewed_by : Renewal → ValueList → ℕ → CacheEntry → CacheEntry
+renewed_by renewal list now before = record {
+  list = record {
+    id = unwrap_or renewal.id before.list.id;
+    time = list.time;
+    interval = list.interval;
+    values = renewal.values;
+  };
+  rates = renewal.rates;
+  arrival = now;
+}
+
+-- at any moment that is the entry of the list
+abbrev pub IsRenewal : Renewal → DataSet → CacheEntry → ValueList → Type 0
+IsRenewal renewal set before list =
+    (now : ℕ) → renewed_by renewal list now before ≡ renewed set (Some before) list now
