@@ -1,8 +1,8 @@
 -- Facts of the row of a number, for callers.
-use Rattle.std.proofs.Common.{◌≡◌, ◌<◌, ℕ, suc, zero, List, [], ◌∷◌, Bool, true, length, get_or, Some, refl, ap, ◌∙◌, arith}
+use Rattle.std.proofs.Common.{◌≡◌, ◌<◌, ℕ, suc, zero, List, [], ◌∷◌, ◌++◌, Bool, true, false, ◌&&◌, length, get_or, Some, refl, ap, ◌∙◌, arith}
 use Rattle.std.specs.List.{position}
 use Rattle.std.proofs.lemmas.List.Quantifiers.{position-Some}
-use Rattle.cd_registry.specs.Rows.{Row, At, with_row}
+use Rattle.cd_registry.specs.Rows.{Row, At, IsLive, IsPlugOut, IsReady, after_take, has_kinds, is_live_as, live_number_with, with_row}
 
 -- a fact of a row leads to another
 pub at_map : (rows : List Row) (i : ℕ) (P Q : Row → Type 0) → ((row : Row) → P row → Q row) → At rows i P → At rows i Q
@@ -36,3 +36,28 @@ at_kept (row ∷ rows) zero zero step P f at = f row at
 at_kept (row ∷ rows) zero (suc i) step P f at = at
 at_kept (row ∷ rows) (suc n) zero step P f at = at
 at_kept (row ∷ rows) (suc n) (suc i) step P f at = at_kept rows n i step P f at
+
+live_first : (a b d : Bool) → (a && b) && d ≡ true → a ≡ true
+live_first true b d e = refl
+live_first false b d e = e
+
+-- a registration that was found by its name and kinds is live
+pub found_live : (kinds : ℕ) (name : List ℕ) (rows : List Row) (reg : ℕ) → live_number_with kinds name rows ≡ Some reg → At rows reg IsLive
+found_live kinds name rows reg found =
+    at_map rows reg (λ row. is_live_as name row && has_kinds kinds row ≡ true) IsLive (λ row passes. live_first row.live _ _ passes)
+    (at_first (λ row. is_live_as name row && has_kinds kinds row) rows reg found)
+
+-- one that is ready can be taken, and is out then
+pub taken_out : (rows : List Row) (reg actor : ℕ) → At rows reg IsReady → At (with_row reg (after_take actor) rows) reg IsPlugOut
+taken_out rows reg actor ready = at_changed rows reg (after_take actor) IsReady IsPlugOut (λ row is. record { actor = actor; out = refl }) ready
+
+-- a row that was put behind the others
+pub at_new : (rows : List Row) (row : Row) (P : Row → Type 0) → P row → At (rows ++ row ∷ []) (length rows) P
+at_new [] row P fact = fact
+at_new (first ∷ rows) row P fact = at_new rows row P fact
+
+-- the others stay where they were
+pub at_old : (rows more : List Row) (i : ℕ) (P : Row → Type 0) → At rows i P → At (rows ++ more) i P
+at_old [] more i P at = absurd at
+at_old (row ∷ rows) more zero P at = at
+at_old (row ∷ rows) more (suc i) P at = at_old rows more i P at

@@ -2,3 +2,4 @@ pub mod Places
 pub mod Changed
 pub mod Kept
 pub mod Ats
+pub mod Numbered

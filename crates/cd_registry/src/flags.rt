@@ -26,6 +26,7 @@ impl Model for Flags {
 }
 
 impl Flags {
+    /// No flag.
     pub fn new(alloc: Global) -> Flags
         ensures { result.flags ≡ [] }
     {
@@ -51,6 +52,7 @@ impl Flags {
         self.bytes.push_reserved(0);
     }
 
+    /// Puts the flag of a number up or down.
     pub fn set(&mut self, number: usize, up: bool)
         requires { number < length self.old.flags }
         ensures { self.new.flags ≡ slice_set self.old.flags number up }

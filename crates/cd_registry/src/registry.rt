@@ -50,7 +50,8 @@ impl<P: Plug, Q: Probe> Registry<P, Q> {
         kinds: Kinds,
         member: MemberOf<P, Q>,
     ) -> Result<u64, Refused<MemberOf<P, Q>, AddFault>>
-        ensures fault { fault_of result ≡ add_fault name (rows P.plug_tells Q.probe_tells self.old) }
+        ensures fault { fault_of result ≡
+            add_fault name (rows P.plug_tells Q.probe_tells self.old) }
         ensures number { IfOk result (λ reg.
             reg ≡ length (rows P.plug_tells Q.probe_tells self.old)) }
         ensures ok { OnOk result (rows P.plug_tells Q.probe_tells self.new ≡
@@ -141,7 +142,8 @@ impl<P: Plug, Q: Probe> Registry<P, Q> {
     pub fn back(&mut self, reg: u64, object: Q)
         requires { At (rows P.plug_tells Q.probe_tells self.old) reg IsProbeOut }
         ensures rows { rows P.plug_tells Q.probe_tells self.new ≡
-            with_row reg (after_back (Q.probe_tells object)) (rows P.plug_tells Q.probe_tells self.old) }
+            with_row reg (after_back (Q.probe_tells object))
+            (rows P.plug_tells Q.probe_tells self.old) }
         ensures room { KeepsRoom self.old self.new }
     {
         self.slots[reg as usize].put(MemberOf::Probe(object));
@@ -319,7 +321,8 @@ fn live_slots<P, Q>(slots: &[Slot<P, Q>]) -> u64
 
 /// The numbers of the live slots that have all of these kinds, in order.
 fn listening_slots<P, Q>(alloc: Global, slots: &[Slot<P, Q>], kinds: Kinds) -> Result<Regs, Memory>
-    ensures { IfOk result (λ regs. regs ≡ numbers_of (λ slot. slot.live && has_slot_kinds kinds.0 slot) slots.now) }
+    ensures { IfOk result (λ regs.
+        regs ≡ numbers_of (λ slot. slot.live && has_slot_kinds kinds.0 slot) slots.now) }
 {
     let mut regs = Regs::new(alloc);
     for (at, slot) in slots.iter().enumerate() {

@@ -90,7 +90,8 @@ fn lend_first<P: Plug>(
     actor: u64,
 ) -> Option<(u64, Silent)>
     requires { rows P.plug_tells ⟦<Silent as Probe>⟧.probe_tells registry.old ≡ [] }
-    ensures { IfSome result (λ lent. At (rows P.plug_tells ⟦<Silent as Probe>⟧.probe_tells registry.new) lent.0 IsProbeOut) }
+    ensures { IfSome result (λ lent.
+        At (rows P.plug_tells ⟦<Silent as Probe>⟧.probe_tells registry.new) lent.0 IsProbeOut) }
 {
     match registry.add(alloc, name, Kinds(0), MemberOf::Probe(Silent)) {
         Ok(reg) => Some((reg, registry.lend(reg, actor))),

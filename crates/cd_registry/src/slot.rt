@@ -25,18 +25,21 @@ pub struct Slot<P, Q> {
 }
 
 impl<P, Q> Slot<P, Q> {
+    /// Whether it is live and has this name.
     pub fn is_live_as(&self, name: &Text) -> bool
         ensures { result ≡ is_slot_live_as name.now self.now }
     {
         self.live && self.name == *name
     }
 
+    /// Whether it has all of these kinds.
     pub fn has_kinds(&self, kinds: Kinds) -> bool
         ensures { result ≡ has_slot_kinds kinds.0 self.now }
     {
         self.kinds.has(kinds)
     }
 
+    /// Whether its plug-in is at home and a call waits for it.
     pub fn is_ready(&self) -> bool
         ensures { result ≡ is_slot_ready self.now }
     {
@@ -102,7 +105,8 @@ impl<P: Plug, Q: Probe> Slot<P, Q> {
     /// Takes the plug-in and the oldest call that waits.
     pub fn take(&mut self, actor: u64) -> (P, Call)
         requires { is_slot_ready self.old ≡ true }
-        ensures lease { IsHomeFor (P.plug_tells result.0) result.1 (row_of P.plug_tells Q.probe_tells self.old) }
+        ensures lease { IsHomeFor (P.plug_tells result.0) result.1
+            (row_of P.plug_tells Q.probe_tells self.old) }
         ensures row { row_of P.plug_tells Q.probe_tells self.new ≡
             after_take actor (row_of P.plug_tells Q.probe_tells self.old) }
         ensures spare { slot_spare self.old ≤ slot_spare self.new }
@@ -169,6 +173,7 @@ impl<P: Plug, Q: Probe> Slot<P, Q> {
         Ok(self.hand_out())
     }
 
+    /// Why the object isn't handed out.
     fn retire_fault(&self) -> Option<RetireFault>
         ensures { result ≡ row_fault (row_of P.plug_tells Q.probe_tells self.now) }
     {
@@ -183,6 +188,7 @@ impl<P: Plug, Q: Probe> Slot<P, Q> {
         }
     }
 
+    /// Hands the object out, and gives the memory of its queue back.
     fn hand_out(&mut self) -> MemberOf<P, Q>
         requires { row_fault (row_of P.plug_tells Q.probe_tells self.old) ≡ None }
         ensures member { (row_of P.plug_tells Q.probe_tells self.old).place ≡
