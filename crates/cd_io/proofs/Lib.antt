@@ -1,3 +1,4 @@
+pub mod Coming
 pub mod Moves
 pub mod Rises
 pub mod Speaking

@@ -21,7 +21,7 @@ pub grows_none : (told : Option (List ℕ)) → Grows [] told told
 grows_none None = tt
 grows_none (Some x) = simp append-nil
 
-pub loses_none : (told : Option (List ℕ)) → Loses [] told told
+pub loses_none : {A : Type 0} (told : Option (List A)) → Loses [] told told
 loses_none None = tt
 loses_none (Some x) = refl
 
@@ -38,10 +38,10 @@ pub grows_more : (more most : List ℕ) (old mid new : Option (List ℕ))
 grows_more more most old mid new =
     moves_then _ _ _ old mid new (λ x y z h k. k ∙ ap (λ (w : List ℕ). w ++ most) h ∙ append_assoc x more most)
 
-pub loses_more : (more most : List ℕ) (old mid new : Option (List ℕ))
+pub loses_more : {A : Type 0} (more most : List A) (old mid new : Option (List A))
     → Loses more old mid → Loses most mid new → Loses (more ++ most) old new
-loses_more more most old mid new =
-    moves_then _ _ _ old mid new (λ x y z h k. h ∙ ap (λ (w : List ℕ). more ++ w) k ∙ sym (append_assoc more most z))
+loses_more {A = A} more most old mid new =
+    moves_then _ _ _ old mid new (λ x y z h k. h ∙ ap (λ (w : List A). more ++ w) k ∙ sym (append_assoc more most z))
 
 pub adds_more : {A : Type 0} (more most : List A) (old mid new : Option (List A))
     → Adds more old mid → Adds most mid new → Adds (more ++ most) old new

@@ -15,8 +15,8 @@ Stays old new = Moves (λ x y. y ≡ x) old new
 abbrev pub Grows : List ℕ → Option (List ℕ) → Option (List ℕ) → Type 0
 Grows bytes old new = Moves (λ x y. y ≡ x ++ bytes) old new
 
--- these bytes were taken from the front of those told
-abbrev pub Loses : List ℕ → Option (List ℕ) → Option (List ℕ) → Type 0
+-- these items were taken from the front of those told
+abbrev pub Loses : {A : Type 0} → List A → Option (List A) → Option (List A) → Type 0
 Loses bytes old new = Moves (λ x y. x ≡ bytes ++ y) old new
 
 -- these items were put behind those told

@@ -1,10 +1,12 @@
 //! The outside in memory, for tests: it tells all that it holds.
 mod chance;
 mod link;
+mod packets;
 mod time;
 mod world;
 
 pub use chance::MemDice;
 pub use link::{LinkPlan, MemLink};
+pub use packets::{MemPackets, PacketsPlan};
 pub use time::MemClock;
 pub use world::MemWorld;

@@ -1,7 +1,7 @@
 //! What no clause says: what goes over real readers and writers, and each call once.
 use crate::{
-    Clock, Dice, Failed, Heard, Link, LinkPlan, MemClock, MemDice, MemLink, MemWorld, RealWorld,
-    Streams, World, say_all,
+    Clock, DATAGRAM_LIMIT, Dice, Failed, Heard, Link, LinkPlan, MemClock, MemDice, MemLink,
+    MemPackets, MemWorld, Packets, PacketsPlan, RealWorld, Streams, World, say_all,
 };
 use std::io::{self, ErrorKind, Read, Write};
 use std::test::Fail;
@@ -150,5 +150,36 @@ fn the_real_world_goes_on(rt: HostRuntime) -> Result<(), Fail> {
     assert_eq!(rt; dice.word(), word);
     assert!(rt; dice.word() != word);
     assert!(rt; world.dice().word() != word);
+    Ok(())
+}
+
+#[test]
+fn packets_go_by_their_plan(rt: HostRuntime) -> Result<(), Fail> {
+    let alloc = rt.alloc();
+    let mut plan = PacketsPlan::new(alloc);
+    plan.failing_calls.push(1)?;
+    plan.quiet_calls.push(2)?;
+    let mut datagrams = Vec::new(alloc);
+    for bytes in [b"abc".as_slice(), b"", b"d"] {
+        datagrams.push(bytes.to_vec(alloc)?)?;
+    }
+    datagrams.push(vec![in alloc; 7u8; DATAGRAM_LIMIT + 1]?)?;
+    let mut source = MemPackets::new(datagrams, plan);
+    let mut buf = vec![in alloc; 0u8; DATAGRAM_LIMIT]?;
+    for (answer, bytes) in [
+        (Ok(Heard::Got(3)), b"abc".as_slice()),
+        (Err(Failed), b"abc"),
+        (Ok(Heard::Quiet), b"abc"),
+        (Ok(Heard::Got(0)), b"abc"),
+        (Ok(Heard::Got(1)), b"dbc"),
+        (Ok(Heard::Got(DATAGRAM_LIMIT)), b"\x07\x07\x07"),
+        (Ok(Heard::End), b"\x07\x07\x07"),
+        (Ok(Heard::End), b"\x07\x07\x07"),
+    ] {
+        let room: &mut [u8] = &mut buf;
+        assert!(rt; room.len() >= DATAGRAM_LIMIT);
+        assert_eq!(rt; source.next(room), answer);
+        assert_eq!(rt; room.get(..3), Some(bytes));
+    }
     Ok(())
 }

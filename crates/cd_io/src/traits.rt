@@ -21,14 +21,14 @@ impl Failed {
     }
 }
 
-/// What a link heard.
+/// What came from a link, or from a source of datagrams.
 #[derive(Clone, Copy, Debug, PartialEq, Eq)]
 pub enum Heard {
-    /// This many bytes, at least 1, at the front of the buffer.
+    /// This many bytes at the front of the buffer: of a link at least 1, of a source of datagrams all of the next one.
     Got(usize),
-    /// The end of what the peer sends.
+    /// Nothing, since nothing comes any more.
     End,
-    /// Nothing within the link's own limit of waiting.
+    /// Nothing within the object's own limit of waiting.
     Quiet,
 }
 

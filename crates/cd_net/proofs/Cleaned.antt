@@ -11,26 +11,26 @@ use Rattle.cd_value.specs.Identifier.{Fields, has_bad_field, has_long_field, has
 use Rattle.cd_value.proofs.Cleaned.{is_field-clean_field, slash-clean_field}
 use Rattle.cd_net.specs.declared.item.ItemRefusal.{ItemRefusal}
 use Rattle.cd_net.specs.declared.item.ItemRefusal.TheVariants.{NotText, BadField}
-use Rattle.cd_net.specs.Clean.{clean, is_replaced}
+use Rattle.cd_net.specs.Clean.{cleaned, is_replaced}
 use Rattle.cd_net.specs.InForce.{InForce}
 use Rattle.cd_net.specs.Items.{clean_texts}
 use Rattle.cd_net.specs.Refusals.{are_texts, are_times, first_refusal, list_tests, texts_of}
-use Rattle.cd_net.proofs.Texts.{clean-kept}
+use Rattle.cd_net.proofs.Texts.{cleaned-kept}
 
 -- a text that isn't too long isn't cut
-uncut : (slash : Bool) (text : List ℕ) → is_long text ≡ false → clean_field slash text ≡ clean slash text
+uncut : (slash : Bool) (text : List ℕ) → is_long text ≡ false → clean_field slash text ≡ cleaned slash text
 uncut slash text short =
     let fits : nat_le (length (map (clean_byte slash) text)) 127 ≡ true
     = ap (λ n. nat_le n 127) (length-map text (clean_byte slash)) ∙ le-leb (length text) 127 (ltb-false 127 (length text) short) in
     rw fits refl
 
-field_clean : (slash : Bool) (text : List ℕ) → is_long text ≡ false → is_field (clean slash text) ≡ true
+field_clean : (slash : Bool) (text : List ℕ) → is_long text ≡ false → is_field (cleaned slash text) ≡ true
 field_clean slash text short = ap is_field (sym (uncut slash text short)) ∙ is_field-clean_field slash text
 
-slash_clean : (text : List ℕ) → is_long text ≡ false → has_slash (clean true text) ≡ false
+slash_clean : (text : List ℕ) → is_long text ≡ false → has_slash (cleaned true text) ≡ false
 slash_clean text short = ap has_slash (sym (uncut true text short)) ∙ slash-clean_field true text refl
 
-empty_clean : (slash : Bool) (text : List ℕ) → is_empty text ≡ false → is_empty (clean slash text) ≡ false
+empty_clean : (slash : Bool) (text : List ℕ) → is_empty text ≡ false → is_empty (cleaned slash text) ≡ false
 empty_clean slash [] h = h
 empty_clean slash (byte ∷ text) h = refl
 
@@ -43,6 +43,12 @@ type_clean (byte ∷ text) h =
     let both = and_parts (is_type_byte byte) (list_all is_type_byte text) h in
     rw (type_byte byte both.0, type_clean text both.1) refl
 
+-- a type without another character than a type's stays
+pub type_stays : (texts : Fields) → has_bad_field texts ≡ false → cleaned false texts.type_name ≡ texts.type_name
+type_stays texts good =
+    let bad = or_parts (is_empty texts.host || is_empty texts.plugin || is_empty texts.type_name) (not (list_all is_type_byte texts.type_name)) good in
+    cleaned-kept false texts.type_name (type_clean texts.type_name (not-false (list_all is_type_byte texts.type_name) bad.1))
+
 pub is_identifier-clean_texts : (texts : Fields) → has_bad_field texts ≡ false → has_long_field texts ≡ false → is_identifier (clean_texts texts) ≡ true
 is_identifier-clean_texts texts good short =
     let bad3 = or_parts (is_empty texts.host || is_empty texts.plugin || is_empty texts.type_name) (not (list_all is_type_byte texts.type_name)) good in
@@ -53,7 +59,7 @@ is_identifier-clean_texts texts good short =
     let long2 = or_parts (is_long texts.host || is_long texts.plugin) (is_long texts.plugin_instance) long3.0 in
     let long1 = or_parts (is_long texts.host) (is_long texts.plugin) long2.0 in
     let type_bytes : list_all is_type_byte texts.type_name ≡ true = not-false (list_all is_type_byte texts.type_name) bad3.1 in
-    let type_kept : clean false texts.type_name ≡ texts.type_name = clean-kept false texts.type_name (type_clean texts.type_name type_bytes) in
+    let type_kept : cleaned false texts.type_name ≡ texts.type_name = type_stays texts good in
     rw (
       field_clean true texts.host long1.0,
       field_clean true texts.plugin long1.1,
@@ -69,26 +75,3 @@ is_identifier-clean_texts texts good short =
       type_kept,
       type_bytes,
     ) refl
-
--- ---- what holds where nothing is refused
-
-pub record Passes (texts : Fields) : Type 0 where
-  pub good : has_bad_field texts ≡ false
-  pub short : has_long_field texts ≡ false
-
-passes : (test : Bool × ItemRefusal) (tests : List (Bool × ItemRefusal)) → first_refusal (test ∷ tests) ≡ None → (test.0 ≡ false) × (first_refusal tests ≡ None)
-passes test tests h = by test.0 h
-  where
-    by : (t : Bool) → cond t (Some test.1) (first_refusal tests) ≡ None → (t ≡ false) × (first_refusal tests ≡ None)
-    by true e = cc
-    by false e = (refl, e)
-
-pub list_passes : (types : List DataSet) (fields : InForce) (payload : List ℕ) → first_refusal (list_tests types fields payload) ≡ None → Passes (texts_of fields)
-list_passes types fields payload h =
-    let tests = list_tests types fields payload in
-    let texts = texts_of fields in
-    let first = passes (not (are_texts fields), NotText) (drop 1 tests) h in
-    let second = passes (has_bad_field texts || has_long_field texts || not (are_times fields), BadField) (drop 2 tests) first.1 in
-    let apart = or_parts (has_bad_field texts || has_long_field texts) (not (are_times fields)) second.0 in
-    let both = or_parts (has_bad_field texts) (has_long_field texts) apart.0 in
-    record { good = both.0; short = both.1 }

@@ -12,7 +12,7 @@ use Rattle.cd_net.specs.declared.packet.PacketEnd.{PacketEnd}
 use Rattle.cd_net.specs.Packet.{AreParts, end_at, part_at, payload}
 use Rattle.cd_net.specs.InForce.{InForce, in_force}
 use Rattle.cd_net.specs.Carried.{with_field}
-use Rattle.cd_net.specs.Items.{IsDecoded, each_behind, given, given_behind, item_in, refusal_in, items_of, refused_of}
+use Rattle.cd_net.specs.Items.{IsDecoded, each_behind, outcome, outcome_behind, item_in, refusal_in, items_of, refused_of}
 use Rattle.cd_net.proofs.Fields.{in_force-push}
 
 cons-append : {A : Type 0} (o : Option A) (xs ys : List A) → cons_option o xs ++ ys ≡ cons_option o (xs ++ ys)
@@ -51,29 +51,29 @@ reads_none types global bytes fields items refused f i r =
 
 -- one more leads to the next place
 pub reads_more : (types : List DataSet) (global : ℕ) (bytes : List ℕ) (place : ℕ) (fields next : InForce) (items more : List Item) (refused again : List (ℕ × ItemRefusal)) (part : Part)
-    (given_here : Option (Result Item ItemRefusal))
+    (gave : Option (Result Item ItemRefusal))
     → Reads types global bytes place fields items refused → end_at bytes place ≡ None → part ≡ part_at bytes place
-    → given_here ≡ given types global fields part.kind (payload bytes part)
+    → gave ≡ outcome types global fields part.kind (payload bytes part)
     → next ≡ with_field part.kind (payload bytes part) fields
-    → more ≡ items ++ option_to_list (item_in given_here)
-    → again ≡ refused ++ option_to_list (refusal_in part.place given_here)
+    → more ≡ items ++ option_to_list (item_in gave)
+    → again ≡ refused ++ option_to_list (refusal_in part.place gave)
     → Reads types global bytes (place + part.length) next more again
-reads_more types global bytes place fields next items more refused again part given_here reads going part_is given_is next_is more_is again_is =
+reads_more types global bytes place fields next items more refused again part gave reads going part_is gave_is next_is more_is again_is =
     let before = reads.before in
-    let here : given_here ≡ given_behind types global bytes before part
-    = given_is ∙ ap (λ (f : InForce). given types global f part.kind (payload bytes part)) reads.fields_are in
+    let here : gave ≡ outcome_behind types global bytes before part
+    = gave_is ∙ ap (λ (f : InForce). outcome types global f part.kind (payload bytes part)) reads.fields_are in
     record {
       before = before ++ part ∷ [];
       goes_on = λ parts end cut. subst (λ (ps : List Part). AreParts bytes 0 ps end) (sym (append_assoc before (part ∷ []) parts)) (reads.goes_on (part ∷ parts) end (going, part_is, cut));
       fields_are = next_is ∙ ap (with_field part.kind (payload bytes part)) reads.fields_are ∙ sym (in_force-push bytes before part);
       items_are =
-          more_is ∙ ap (λ (xs : List Item). xs ++ option_to_list (item_in given_here)) reads.items_are
+          more_is ∙ ap (λ (xs : List Item). xs ++ option_to_list (item_in gave)) reads.items_are
           ∙ ap (λ (g : Option (Result Item ItemRefusal)). items_of types global bytes before ++ option_to_list (item_in g)) here
-          ∙ sym (each_behind-push (λ b p. item_in (given_behind types global bytes b p)) [] before part);
+          ∙ sym (each_behind-push (λ b p. item_in (outcome_behind types global bytes b p)) [] before part);
       refused_are =
-          again_is ∙ ap (λ (xs : List (ℕ × ItemRefusal)). xs ++ option_to_list (refusal_in part.place given_here)) reads.refused_are
+          again_is ∙ ap (λ (xs : List (ℕ × ItemRefusal)). xs ++ option_to_list (refusal_in part.place gave)) reads.refused_are
           ∙ ap (λ (g : Option (Result Item ItemRefusal)). refused_of types global bytes before ++ option_to_list (refusal_in part.place g)) here
-          ∙ sym (each_behind-push (λ b p. refusal_in p.place (given_behind types global bytes b p)) [] before part);
+          ∙ sym (each_behind-push (λ b p. refusal_in p.place (outcome_behind types global bytes b p)) [] before part);
     }
 
 -- where the packet ends, all is read

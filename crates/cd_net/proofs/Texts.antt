@@ -7,8 +7,8 @@ use Rattle.std.proofs.lemmas.Bool.{or_parts, and_parts, not-true, false_from_ne_
 use Rattle.std.proofs.lemmas.List.{take_all}
 use Rattle.std.proofs.lemmas.Str.{is_utf8-from_IsUtf8, IsUtf8-from_is_utf8}
 use Rattle.cd_value.specs.Identifier.{is_control, is_slash}
-use Rattle.cd_net.specs.Payload.{is_zero, text_of}
-use Rattle.cd_net.specs.Clean.{clean, is_replaced}
+use Rattle.cd_net.specs.Payload.{is_zero, payload_text}
+use Rattle.cd_net.specs.Clean.{cleaned, is_replaced}
 
 -- ---- a text in a payload
 
@@ -27,13 +27,13 @@ no_position {X} p xs h = sym (take_all (position_or_len p xs) xs (ltb-false (pos
     by false e = refl
 
 -- what stands before the zero at the end is the text, if it is one
-pub text_is : (payload text : List ℕ) → text ≡ before_first is_zero payload → length text + 1 ≡ length payload → IsUtf8 text → text_of payload ≡ Some text
+pub text_is : (payload text : List ℕ) → text ≡ before_first is_zero payload → length text + 1 ≡ length payload → IsUtf8 text → payload_text payload ≡ Some text
 text_is payload text same long good =
     let at_end : (length text + 1 == length payload) ≡ true = eq-eqb (length text + 1) (length payload) long in
     let utf8 : is_utf8 text ≡ true = is_utf8-from_IsUtf8 text good in
     ap (λ (t : List ℕ). cond (length t + 1 == length payload && is_utf8 t) (Some t) None) (sym same) ∙ (rw (at_end, utf8) refl)
 
-pub no_text : (payload text : List ℕ) → text ≡ before_first is_zero payload → (IsUtf8 text → ⊥) → text_of payload ≡ None
+pub no_text : (payload text : List ℕ) → text ≡ before_first is_zero payload → (IsUtf8 text → ⊥) → payload_text payload ≡ None
 no_text payload text same bad =
     let utf8 : is_utf8 text ≡ false = false_from_ne_true (is_utf8 text) (λ e. bad (IsUtf8-from_is_utf8 text e)) in
     ap (λ (t : List ℕ). cond (length t + 1 == length payload && is_utf8 t) (Some t) None) (sym same) ∙ (rw utf8 (none (length text + 1 == length payload)))
@@ -51,11 +51,11 @@ none_replaced slash (byte ∷ text) h =
     rw (not-true (is_replaced slash byte) both.0, none_replaced slash text both.1) refl
 
 -- a text of which no byte is replaced stays as it is
-pub clean-kept : (slash : Bool) (text : List ℕ) → list_any (is_replaced slash) text ≡ false → clean slash text ≡ text
-clean-kept slash [] h = refl
-clean-kept slash (byte ∷ text) h =
+pub cleaned-kept : (slash : Bool) (text : List ℕ) → list_any (is_replaced slash) text ≡ false → cleaned slash text ≡ text
+cleaned-kept slash [] h = refl
+cleaned-kept slash (byte ∷ text) h =
     let both = or_parts (is_replaced slash byte) (list_any (is_replaced slash) text) h in
-    rw (both.0, clean-kept slash text both.1) refl
+    rw (both.0, cleaned-kept slash text both.1) refl
 
 -- where no slash is replaced, fewer bytes are
 fewer : (slash : Bool) (byte : ℕ) → is_replaced true byte ≡ false → is_replaced slash byte ≡ false
@@ -69,5 +69,5 @@ none_fewer slash (byte ∷ text) h =
     rw (fewer slash byte both.0, none_fewer slash text both.1) refl
 
 -- a text without a control character and without a slash stays in each field
-pub clean-stays : (text : List ℕ) → list_all (λ byte. not (is_replaced true byte)) text ≡ true → (slash : Bool) → clean slash text ≡ text
-clean-stays text h slash = clean-kept slash text (none_fewer slash text (none_replaced true text h))
+pub cleaned-stays : (text : List ℕ) → list_all (λ byte. not (is_replaced true byte)) text ≡ true → (slash : Bool) → cleaned slash text ≡ text
+cleaned-stays text h slash = cleaned-kept slash text (none_fewer slash text (none_replaced true text h))

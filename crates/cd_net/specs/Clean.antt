@@ -4,8 +4,8 @@ use Rattle.cd_value.specs.Clean.{clean_byte}
 use Rattle.cd_value.specs.Identifier.{is_control, is_slash}
 
 -- control characters become `_`, and slashes too where there may be none
-abbrev pub clean : Bool → List ℕ → List ℕ
-clean slash text = map (clean_byte slash) text
+abbrev pub cleaned : Bool → List ℕ → List ℕ
+cleaned slash text = map (clean_byte slash) text
 
 -- a byte for which `_` stands then
 abbrev pub is_replaced : Bool → ℕ → Bool

@@ -9,34 +9,34 @@ use Rattle.cd_value.specs.declared.data.Value.TheVariants.{Counter, Derive, Abso
 use Rattle.cd_value.specs.declared.data.DsType.{DsType}
 use Rattle.cd_value.specs.declared.data.DsType.TheVariants as kinds
 use Rattle.cd_value.specs.declared.numbers.TheConstants.{SECOND}
-use Rattle.cd_net.specs.declared.kinds.TheConstants.{SECONDS_LIMIT, COUNTER_CODE, GAUGE_CODE, DERIVE_CODE, ABSOLUTE_CODE}
+use Rattle.cd_net.specs.declared.numbers.TheConstants.{SECONDS_LIMIT, COUNTER_CODE, GAUGE_CODE, DERIVE_CODE, ABSOLUTE_CODE}
 
 abbrev pub is_zero : ℕ → Bool
 is_zero byte = byte == 0
 
--- a text, and one zero byte behind it
-abbrev pub text_of : List ℕ → Option (List ℕ)
-text_of payload =
+-- a text of UTF-8 and one zero byte behind it, the only one
+abbrev pub payload_text : List ℕ → Option (List ℕ)
+payload_text payload =
     let text = before_first is_zero payload in
     if length text + 1 == length payload && is_utf8 text then Some text else None
 
-abbrev pub number_of : List ℕ → ℕ
-number_of payload = big_number 8 payload
+abbrev pub payload_number : List ℕ → ℕ
+payload_number payload = big_number 8 payload
 
--- a time or an interval in units of 2^-30 s; none for 2^34 seconds or more
+-- a number of seconds in 2^-30 s; none for 2^34 seconds or more
 abbrev pub units_of_seconds : ℕ → Option ℕ
 units_of_seconds seconds = if nat_lt seconds SECONDS_LIMIT then Some (seconds * SECOND) else None
 
--- ---- values: a count, a code byte for each, and eight bytes for each
+-- ---- values: their count, a code byte for each, and eight bytes for each
 
-abbrev pub count_of : List ℕ → ℕ
-count_of payload = big_number 2 payload
+abbrev pub value_count : List ℕ → ℕ
+value_count payload = big_number 2 payload
 
 abbrev pub codes_of : List ℕ → List ℕ
-codes_of payload = take (count_of payload) (drop 2 payload)
+codes_of payload = take (value_count payload) (drop 2 payload)
 
 abbrev pub numbers_of : List ℕ → List ℕ
-numbers_of payload = drop (2 + count_of payload) payload
+numbers_of payload = drop (2 + value_count payload) payload
 
 -- the code of a kind of data source
 abbrev pub code_of : DsType → ℕ
@@ -45,17 +45,17 @@ code_of kinds.Gauge = GAUGE_CODE
 code_of kinds.Derive = DERIVE_CODE
 code_of kinds.Absolute = ABSOLUTE_CODE
 
--- the value of a code and the first eight of some bytes; a gauge, which is a floating-point number, has none
-abbrev pub value_of : ℕ → List ℕ → Option Value
-value_of code bytes =
+-- the value of a code and the first eight of some bytes; a gauge, a floating-point number, has none
+abbrev pub coded_value : ℕ → List ℕ → Option Value
+coded_value code bytes =
     if code == COUNTER_CODE then Some (Counter (big_number 8 bytes))
     else (if code == DERIVE_CODE then Some (Derive (cast_signed w64 (big_number 8 bytes)))
     else (if code == ABSOLUTE_CODE then Some (Absolute (big_number 8 bytes)) else None))
 
--- the values of some codes, each of eight bytes of its own
-abbrev pub values_in : List ℕ → List ℕ → List Value
-values_in [] bytes = []
-values_in (code ∷ codes) bytes = cons_option (value_of code bytes) (values_in codes (drop 8 bytes))
+-- the values of some codes, each of the next eight bytes
+abbrev pub coded_values : List ℕ → List ℕ → List Value
+coded_values [] bytes = []
+coded_values (code ∷ codes) bytes = cons_option (coded_value code bytes) (coded_values codes (drop 8 bytes))
 
-abbrev pub values_of : List ℕ → List Value
-values_of payload = values_in (codes_of payload) (numbers_of payload)
+abbrev pub payload_values : List ℕ → List Value
+payload_values payload = coded_values (codes_of payload) (numbers_of payload)

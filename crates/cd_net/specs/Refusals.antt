@@ -8,7 +8,7 @@ use Rattle.cd_value.specs.declared.data.DataSource.{DataSource}
 use Rattle.cd_value.specs.Identifier.{Fields, has_bad_field, has_long_field}
 use Rattle.cd_net.specs.declared.item.ItemRefusal.{ItemRefusal}
 use Rattle.cd_net.specs.declared.item.ItemRefusal.TheVariants.{NotText, BadField, Gauge, UnknownType, WrongCount, WrongKind, BadSeverity, NoTime}
-use Rattle.cd_net.specs.declared.kinds.TheConstants.{GAUGE_CODE, FAILURE_CODE, WARNING_CODE, OKAY_CODE}
+use Rattle.cd_net.specs.declared.numbers.TheConstants.{GAUGE_CODE, FAILURE_CODE, WARNING_CODE, OKAY_CODE}
 use Rattle.cd_net.specs.Payload.{codes_of, code_of}
 use Rattle.cd_net.specs.InForce.{InForce}
 

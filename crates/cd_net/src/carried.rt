@@ -4,13 +4,13 @@ ghost use Rattle.std.specs.List.{list_all};
 ghost use Rattle.cd_value.specs.Identifier.{has_bad_field, has_long_field, is_long, is_type_byte};
 ghost use Rattle.cd_net.specs.Items.{interval_or};
 ghost use Rattle.cd_net.specs.Refusals.{are_texts, are_times, has_time, texts_of};
-ghost use Rattle.cd_net.specs.Carried.{seen, text_in, with_field};
+ghost use Rattle.cd_net.specs.Carried.{shown, text_in, with_field};
 ghost use Rattle.cd_net.specs.InForce.{in_force};
 ghost use Rattle.cd_net.specs.Packet.{IsOfKind};
-ghost use Rattle.cd_net.specs.Payload.{text_of};
+ghost use Rattle.cd_net.specs.Payload.{payload_text};
 
 use crate::field::Field;
-use crate::kinds::{
+use crate::numbers::{
     HOST, INTERVAL, INTERVAL_HIGH_RESOLUTION, PLUGIN, PLUGIN_INSTANCE, SEVERITY, TIME,
     TIME_HIGH_RESOLUTION, TYPE, TYPE_INSTANCE,
 };
@@ -33,7 +33,7 @@ pub(crate) struct Carried<'a> {
 impl<'a> Carried<'a> {
     /// The fields before any part.
     pub fn new() -> Self
-        ensures { (bytes : List ℕ) → seen result ≡ in_force bytes [] }
+        ensures { (bytes : List ℕ) → shown result ≡ in_force bytes [] }
     {
         let empty = Some(Field::new(""));
         Carried {
@@ -51,7 +51,7 @@ impl<'a> Carried<'a> {
     /// Takes the field of a part, if it has one.
     pub fn take(&mut self, kind: u16, payload: &'a [u8])
         requires { IsOfKind kind payload.now }
-        ensures { seen self.new ≡ with_field kind payload.now (seen self.old) }
+        ensures { shown self.new ≡ with_field kind payload.now (shown self.old) }
     {
         match kind {
             HOST => self.host = field(payload),
@@ -70,7 +70,7 @@ impl<'a> Carried<'a> {
 
     /// Whether each text is one.
     pub fn are_texts(&self) -> bool
-        ensures { result ≡ are_texts (seen self.now) }
+        ensures { result ≡ are_texts (shown self.now) }
     {
         self.host.is_some()
             && self.plugin.is_some()
@@ -81,7 +81,7 @@ impl<'a> Carried<'a> {
 
     /// Whether the texts that an identifier needs are empty, or the type has a character that it may not have.
     pub fn has_bad_text(&self) -> bool
-        ensures { result ≡ has_bad_field (texts_of (seen self.now)) }
+        ensures { result ≡ has_bad_field (texts_of (shown self.now)) }
     {
         text_or_empty(self.host).is_empty()
             || text_or_empty(self.plugin).is_empty()
@@ -91,7 +91,7 @@ impl<'a> Carried<'a> {
 
     /// Whether a text is too long for a field.
     pub fn has_long_text(&self) -> bool
-        ensures { result ≡ has_long_field (texts_of (seen self.now)) }
+        ensures { result ≡ has_long_field (texts_of (shown self.now)) }
     {
         is_long(self.host)
             || is_long(self.plugin)
@@ -102,14 +102,14 @@ impl<'a> Carried<'a> {
 
     /// Whether the time and the interval are below 2^34 seconds.
     pub fn are_times(&self) -> bool
-        ensures { result ≡ are_times (seen self.now) }
+        ensures { result ≡ are_times (shown self.now) }
     {
         self.time.is_some() && self.interval.is_some()
     }
 
     /// Whether the time is not 0.
     pub fn has_time(&self) -> bool
-        ensures { result ≡ has_time (seen self.now) }
+        ensures { result ≡ has_time (shown self.now) }
     {
         self.time.unwrap_or(0) != 0
     }
@@ -127,7 +127,7 @@ impl<'a> Carried<'a> {
 
 /// The text of a payload as a field.
 fn field(payload: &[u8]) -> Option<Field<'_>>
-    ensures { text_in result ≡ text_of payload.now }
+    ensures { text_in result ≡ payload_text payload.now }
 {
     match text(payload) {
         Some(text) => Some(Field::new(text)),

@@ -4,7 +4,7 @@ ghost use Rattle.cd_net.specs.declared.packet.Part.{Part};
 ghost use Rattle.cd_net.specs.declared.packet.PacketEnd.{PacketEnd};
 ghost use Rattle.cd_net.specs.Packet.{AreParts, IsOfKind, IsWhole, end_at, has_bad_length, has_length_of_kind, is_number, part_at, payload};
 
-use crate::kinds::{
+use crate::numbers::{
     ENCRYPTION, INTERVAL, INTERVAL_HIGH_RESOLUTION, SEVERITY, TIME, TIME_HIGH_RESOLUTION, VALUES,
 };
 use crate::payload::u16_at;
@@ -89,10 +89,11 @@ pub(crate) fn payload_of<'a>(bytes: &'a [u8], part: &Part) -> &'a [u8]
     &bytes[place + 4..place + part.length as usize]
 }
 
-/// The parts of a datagram, as in the binary protocol of collectd's plugin network, up to where the packet ends.
+/// The parts of a datagram of collectd's binary protocol, up to where the packet ends.
 pub fn parts(alloc: Global, bytes: &[u8]) -> Result<Parts, Memory>
     ensures cut { IfOk result (λ parts. AreParts bytes.now 0 parts.list parts.end) }
-    ensures only { IfOk result (λ parts. (others : List Part) (end : PacketEnd) → AreParts bytes.now 0 others end → (others ≡ parts.list) × (end ≡ parts.end)) }
+    ensures only { IfOk result (λ parts. (others : List Part) (end : PacketEnd) →
+        AreParts bytes.now 0 others end → (others ≡ parts.list) × (end ≡ parts.end)) }
 {
     let mut list = Sequence::new(alloc);
     let mut place = 0;

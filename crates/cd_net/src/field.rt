@@ -2,7 +2,7 @@
 ghost use Rattle.std.specs.Prelude.{◌≡◌, Bool, IfOk, IsTrue, not, true};
 ghost use Rattle.std.specs.List.{list_all};
 ghost use Rattle.cd_value.specs.Clean.{clean_byte};
-ghost use Rattle.cd_net.specs.Clean.{clean, is_replaced};
+ghost use Rattle.cd_net.specs.Clean.{cleaned, is_replaced};
 
 use cd_value::{Memory, Text};
 use std::alloc::Global;
@@ -12,7 +12,7 @@ use std::alloc::Global;
 pub(crate) struct Field<'a> {
     pub text: &'a str,
     pub is_clean: bool,
-    ghost stays: { IsTrue is_clean → (slash : Bool) → clean slash text.now ≡ text.now },
+    ghost stays: { IsTrue is_clean → (slash : Bool) → cleaned slash text.now ≡ text.now },
 }
 
 impl<'a> Field<'a> {
@@ -25,7 +25,7 @@ impl<'a> Field<'a> {
 
     /// A copy of the text in which control characters, and `/` where `slash` is true, are `_`.
     pub fn clean_copy(self, alloc: Global, slash: bool) -> Result<Text, Memory>
-        ensures { IfOk result (λ copy. copy ≡ clean slash self.entry.text.now) }
+        ensures { IfOk result (λ copy. copy ≡ cleaned slash self.entry.text.now) }
     {
         if self.is_clean {
             Text::of(alloc, self.text)
@@ -44,14 +44,14 @@ fn is_clean(bytes: &[u8]) -> bool
 
 /// A copy of a text of which some bytes are to be replaced.
 fn replaced_copy(alloc: Global, text: &str, slash: bool) -> Result<Text, Memory>
-    ensures { IfOk result (λ copy. copy ≡ clean slash text.now) }
+    ensures { IfOk result (λ copy. copy ≡ cleaned slash text.now) }
 {
     let bytes = clean_bytes(alloc, text, slash)?;
     Ok(Text::from_string(String::from_utf8(bytes).unwrap()))
 }
 
 fn clean_bytes(alloc: Global, text: &str, slash: bool) -> Result<Vec<u8>, Memory>
-    ensures { IfOk result (λ bytes. bytes.items ≡ clean slash text.now) }
+    ensures { IfOk result (λ bytes. bytes.items ≡ cleaned slash text.now) }
 {
     let bytes = text
         .bytes()

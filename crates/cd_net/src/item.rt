@@ -15,8 +15,9 @@ pub enum Item {
 pub enum ItemRefusal {
     /// A text in force, or the message, doesn't end with its only zero byte, or isn't UTF-8.
     NotText,
-    /// A field is too long, or a time or an interval is 2^34 seconds or more. Of values: the host, the plugin or the type
-    /// is empty, or the type has a character other than a letter, a digit or `_`.
+    /// A field is longer than `FIELD_LIMIT` of cd_value, or a time or an interval is 2^34 seconds or
+    /// more. Of values: the host, the plugin or the type is empty, or the type has a character other
+    /// than a letter, a digit or `_`.
     BadField,
     /// A value is a gauge, which is sent as a floating-point number.
     Gauge,

@@ -4,15 +4,15 @@ ghost use Rattle.std.specs.Prelude.{◌≡◌, ◌==◌, ◌≤◌, ◌+◌, ◌
 ghost use Rattle.std.specs.List.{list_all, list_any, zip};
 ghost use Rattle.cd_types.specs.Types.{set_named};
 ghost use Rattle.cd_value.specs.Identifier.{has_bad_field, has_long_field};
-ghost use Rattle.cd_net.specs.Carried.{seen};
+ghost use Rattle.cd_net.specs.Carried.{shown};
 ghost use Rattle.cd_net.specs.Items.{clean_texts, list_outcome};
 ghost use Rattle.cd_net.specs.Packet.{IsOfKind};
-ghost use Rattle.cd_net.specs.Payload.{code_of, codes_of, count_of, value_of, values_of};
+ghost use Rattle.cd_net.specs.Payload.{code_of, codes_of, value_count, coded_value, payload_values};
 ghost use Rattle.cd_net.specs.Refusals.{are_texts, are_times, first_refusal, has_time, is_code_of, is_gauge_code, list_tests, sources_of, texts_of};
 
 use crate::carried::{Carried, field_or_empty, text_or_empty};
 use crate::decode::Outcome;
-use crate::kinds::{ABSOLUTE_CODE, COUNTER_CODE, DERIVE_CODE, GAUGE_CODE, VALUES};
+use crate::numbers::{ABSOLUTE_CODE, COUNTER_CODE, DERIVE_CODE, GAUGE_CODE, VALUES};
 use crate::payload::{codes_and_numbers, number};
 use crate::{Item, ItemRefusal};
 use byteorder::{ByteOrder, NetworkEndian};
@@ -33,9 +33,9 @@ fn code_of(kind: DsType) -> u8
 }
 
 /// The value of a code and the first eight of some bytes.
-fn value_of(code: u8, bytes: &[u8]) -> Option<Value>
+fn coded_value(code: u8, bytes: &[u8]) -> Option<Value>
     requires { 8 ≤ length bytes.now }
-    ensures { result ≡ value_of code bytes.now }
+    ensures { result ≡ coded_value code bytes.now }
 {
     match code {
         COUNTER_CODE => Some(Value::Counter(number(bytes))),
@@ -46,14 +46,14 @@ fn value_of(code: u8, bytes: &[u8]) -> Option<Value>
 }
 
 /// The values of a payload.
-fn values_of(alloc: Global, payload: &[u8]) -> Result<Values, Memory>
-    requires { 2 + 9 * count_of payload.now ≤ length payload.now }
-    ensures { IfOk result (λ values. values ≡ values_of payload.now) }
+fn payload_values(alloc: Global, payload: &[u8]) -> Result<Values, Memory>
+    requires { 2 + 9 * value_count payload.now ≤ length payload.now }
+    ensures { IfOk result (λ values. values ≡ payload_values payload.now) }
 {
     let (codes, mut numbers) = codes_and_numbers(payload);
     let mut values = Vec::with_capacity(alloc, codes.len())?;
     for code in codes {
-        if let Some(value) = value_of(*code, numbers) {
+        if let Some(value) = coded_value(*code, numbers) {
             values.push(value)?;
         }
         numbers = &numbers[8..];
@@ -81,7 +81,7 @@ fn have_kinds(codes: &[u8], sources: &[DataSource]) -> bool
 /// Why a values part gives no list, if so.
 fn list_refusal(fields: &Carried<'_>, payload: &[u8], types: &TypesDb) -> Option<ItemRefusal>
     requires { IsOfKind VALUES payload.now }
-    ensures { result ≡ first_refusal (list_tests types.now (seen fields.now) payload.now) }
+    ensures { result ≡ first_refusal (list_tests types.now (shown fields.now) payload.now) }
 {
     if !fields.are_texts() {
         return Some(ItemRefusal::NotText);
@@ -110,9 +110,9 @@ fn list_refusal(fields: &Carried<'_>, payload: &[u8], types: &TypesDb) -> Option
 
 /// The identifier of the texts in force.
 fn identifier(alloc: Global, fields: &Carried<'_>) -> Result<Identifier, Memory>
-    requires good { has_bad_field (texts_of (seen fields.now)) ≡ false }
-    requires short { has_long_field (texts_of (seen fields.now)) ≡ false }
-    ensures { IfOk result (λ id. id ≡ clean_texts (texts_of (seen fields.now))) }
+    requires good { has_bad_field (texts_of (shown fields.now)) ≡ false }
+    requires short { has_long_field (texts_of (shown fields.now)) ≡ false }
+    ensures { IfOk result (λ id. id ≡ clean_texts (texts_of (shown fields.now))) }
 {
     let host = field_or_empty(fields.host).clean_copy(alloc, true)?;
     let plugin = field_or_empty(fields.plugin).clean_copy(alloc, true)?;
@@ -128,8 +128,8 @@ fn identifier(alloc: Global, fields: &Carried<'_>) -> Result<Identifier, Memory>
     })
 }
 
+/// The list of a values part under the fields in force, or why it gives none.
 #[tactic(auto, unfolding(crate::specs::Items::list_outcome))]
-/// The list of a values part under the fields in force, with the global interval, or why it gives none.
 pub(crate) fn list(
     alloc: Global,
     fields: &Carried<'_>,
@@ -138,13 +138,14 @@ pub(crate) fn list(
     interval: u64,
 ) -> Result<Outcome, Memory>
     requires { IsOfKind VALUES payload.now }
-    ensures { IfOk result (λ outcome. outcome ≡ list_outcome types.now interval (seen fields.now) payload.now) }
+    ensures { let fields = shown fields.now in
+        IfOk result (λ gave. gave ≡ list_outcome types.now interval fields payload.now) }
 {
     if let Some(refusal) = list_refusal(fields, payload, types) {
         return Ok(Err(refusal));
     }
     let id = identifier(alloc, fields)?;
-    let values = values_of(alloc, payload)?;
+    let values = payload_values(alloc, payload)?;
     Ok(Ok(Item::List(ValueList {
         id,
         time: fields.time.unwrap_or(0),

@@ -1,15 +1,15 @@
 //! The notification of a message part.
 ghost use Rattle.std.specs.Prelude.{◌≡◌, IfOk};
 ghost use Rattle.std.specs.Option.{option_copied};
-ghost use Rattle.cd_net.specs.Carried.{seen};
+ghost use Rattle.cd_net.specs.Carried.{shown};
 ghost use Rattle.cd_net.specs.Items.{message_of, note_of, note_outcome, severity_of};
-ghost use Rattle.cd_net.specs.Payload.{text_of};
+ghost use Rattle.cd_net.specs.Payload.{payload_text};
 ghost use Rattle.cd_net.specs.Refusals.{first_refusal, is_severity, note_tests};
 
 use crate::carried::{Carried, field_or_empty};
 use crate::decode::Outcome;
 use crate::field::Field;
-use crate::kinds::{FAILURE_CODE, OKAY_CODE, WARNING_CODE};
+use crate::numbers::{FAILURE_CODE, OKAY_CODE, WARNING_CODE};
 use crate::payload::text;
 use crate::{Item, ItemRefusal};
 use cd_value::{MESSAGE_LIMIT, Memory, Notification, Severity, longest_front};
@@ -33,7 +33,8 @@ fn severity_of(code: u64) -> Severity
 
 /// Why a message part gives no notification, if so.
 fn note_refusal(fields: &Carried<'_>, message: Option<&str>) -> Option<ItemRefusal>
-    ensures { result ≡ first_refusal (note_tests (seen fields.now) (option_copied message.entry)) }
+    ensures { let message = option_copied message.entry in
+        result ≡ first_refusal (note_tests (shown fields.now) message) }
 {
     if !fields.are_texts() || message.is_none() {
         return Some(ItemRefusal::NotText);
@@ -52,7 +53,7 @@ fn note_refusal(fields: &Carried<'_>, message: Option<&str>) -> Option<ItemRefus
 
 /// The notification of a message under the fields in force.
 fn note_of(alloc: Global, fields: &Carried<'_>, message: &str) -> Result<Notification, Memory>
-    ensures { IfOk result (λ note. note ≡ note_of (seen fields.now) message.now) }
+    ensures { IfOk result (λ note. note ≡ note_of (shown fields.now) message.now) }
 {
     let host = field_or_empty(fields.host).clean_copy(alloc, true)?;
     let plugin = field_or_empty(fields.plugin).clean_copy(alloc, true)?;
@@ -72,10 +73,10 @@ fn note_of(alloc: Global, fields: &Carried<'_>, message: &str) -> Result<Notific
     })
 }
 
-#[tactic(auto, unfolding(crate::specs::Items::note_outcome))]
 /// The notification of a message part under the fields in force, or why it gives none.
+#[tactic(auto, unfolding(crate::specs::Items::note_outcome))]
 pub(crate) fn note(alloc: Global, fields: &Carried<'_>, payload: &[u8]) -> Result<Outcome, Memory>
-    ensures { IfOk result (λ outcome. outcome ≡ note_outcome (seen fields.now) payload.now) }
+    ensures { IfOk result (λ gave. gave ≡ note_outcome (shown fields.now) payload.now) }
 {
     let message = text(payload);
     if let Some(refusal) = note_refusal(fields, message) {

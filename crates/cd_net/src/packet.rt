@@ -2,7 +2,8 @@
 use cd_value::{Memory, Sequence, TryCopy};
 use std::alloc::Global;
 
-/// A part: its kind, the place of its first byte in the packet, and its length with the four bytes of its head.
+/// A part: its kind, the place of its first byte in the packet, and its length with the four bytes
+/// of its head.
 #[derive(Clone, Copy, Debug, PartialEq, Eq)]
 pub struct Part {
     pub kind: u16,

@@ -3,9 +3,9 @@ ghost use Rattle.std.specs.List.{before_first, position};
 ghost use Rattle.std.specs.Option.{option_copied};
 ghost use Rattle.std.specs.Prelude.{◌≡◌, ◌≤◌, ◌+◌, ◌*◌, length};
 ghost use Rattle.cd_net.specs.Packet.{u16_at};
-ghost use Rattle.cd_net.specs.Payload.{codes_of, count_of, number_of, is_zero, numbers_of, text_of, units_of_seconds};
+ghost use Rattle.cd_net.specs.Payload.{codes_of, value_count, payload_number, is_zero, numbers_of, payload_text, units_of_seconds};
 
-use crate::kinds::SECONDS_LIMIT;
+use crate::numbers::SECONDS_LIMIT;
 use byteorder::{ByteOrder, NetworkEndian};
 use cd_value::SECOND;
 use std::str;
@@ -21,7 +21,7 @@ pub(crate) fn u16_at(bytes: &[u8], place: usize) -> u16
 /// The number of a payload of eight bytes.
 pub(crate) fn number(payload: &[u8]) -> u64
     requires { 8 ≤ length payload.now }
-    ensures { result ≡ number_of payload.now }
+    ensures { result ≡ payload_number payload.now }
 {
     NetworkEndian::read_u64(payload)
 }
@@ -56,7 +56,7 @@ fn before_zero(payload: &[u8]) -> &[u8]
 
 /// The text of a payload.
 pub(crate) fn text(payload: &[u8]) -> Option<&str>
-    ensures { option_copied result ≡ text_of payload.now }
+    ensures { option_copied result ≡ payload_text payload.now }
 {
     let text = before_zero(payload);
     if text.len() + 1 != payload.len() {
@@ -70,7 +70,7 @@ pub(crate) fn text(payload: &[u8]) -> Option<&str>
 
 /// The codes of a values part, and the bytes of its numbers, eight for each code.
 pub(crate) fn codes_and_numbers(payload: &[u8]) -> (&[u8], &[u8])
-    requires { 2 + 9 * count_of payload.now ≤ length payload.now }
+    requires { 2 + 9 * value_count payload.now ≤ length payload.now }
     ensures codes { result.0.now ≡ codes_of payload.now }
     ensures numbers { result.1.now ≡ numbers_of payload.now }
 {

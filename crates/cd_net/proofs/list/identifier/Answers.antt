@@ -1,5 +1,5 @@
 use Rattle.std.proofs.Common.{◌≡◌, rules}
-use Rattle.cd_net.specs.Carried.{seen}
+use Rattle.cd_net.specs.Carried.{shown}
 use Rattle.cd_net.specs.Items.{clean_texts}
 use Rattle.cd_net.specs.Refusals.{texts_of}
 use Rattle.cd_net.proofs.Cleaned.{is_identifier-clean_texts}
@@ -7,7 +7,7 @@ use Rattle.cd_net.proofs.list.identifier.Goals as goal
 
 pub invariant_of-result : goal.invariant_of-result
 invariant_of-result c =
-    let texts = texts_of (seen c.args.fields.now) in
+    let texts = texts_of (shown c.args.fields.now) in
     let host : c.in_ok-host.host ≡ (clean_texts texts).host = search rules in
     let plugin : c.in_ok-plugin.plugin ≡ (clean_texts texts).plugin = search rules in
     let plugin_instance : c.in_ok-plugin_instance.plugin_instance ≡ (clean_texts texts).plugin_instance = search rules in

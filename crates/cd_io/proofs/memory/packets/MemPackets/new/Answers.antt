@@ -1,0 +1,8 @@
+use Rattle.std.proofs.Common.{List, ℕ, ap, Some, []}
+use Rattle.cd_io.specs.Packets.{PacketsTell}
+use Rattle.cd_io.proofs.Coming.{told_of}
+use Rattle.cd_io.proofs.memory.packets.MemPackets.new.Goals as goal
+
+pub returns-clause-tells : goal.returns-clause-tells
+returns-clause-tells c =
+    ap (λ (datagrams : List (List ℕ)). record { given = Some []; left = Some datagrams; faults = 0; quiets = 0 }) (told_of (λ v. v.items) c.args.datagrams.items)
