@@ -101,8 +101,8 @@ values_fit (code ∷ codes) (source ∷ sources) bytes count kinds plain =
     record {
       count = longer ∙ ap (λ (o : Option Value). length (cons_option o others)) (sym value.1);
       kinds =
-        ap (λ (o : Option Value). list_all pair_fits (zip (source ∷ sources) (cons_option o others))) value.1
-        ∙ and_from (pair_fits (source, value.0)) (list_all pair_fits (zip sources others)) value.2 rest.kinds;
+          ap (λ (o : Option Value). list_all pair_fits (zip (source ∷ sources) (cons_option o others))) value.1
+          ∙ and_from (pair_fits (source, value.0)) (list_all pair_fits (zip sources others)) value.2 rest.kinds;
     }
 
 -- ---- the list
@@ -122,7 +122,7 @@ fits_named types list set is fit =
     let count : (length set.sources == length list.values) ≡ true = eq-eqb (length set.sources) (length list.values) fit.count in
     ap (λ (o : Option DataSet). elim o [ None ↦ false | Some s ↦ fits_set s list ]) is
     ∙ and_from (bytes_eq set.name list.id.type_name && length set.sources == length list.values) (list_all pair_fits (zip set.sources list.values))
-        (and_from (bytes_eq set.name list.id.type_name) (length set.sources == length list.values) named count) fit.kinds
+    (and_from (bytes_eq set.name list.id.type_name) (length set.sources == length list.values) named count) fit.kinds
 
 list_fits : (types : List DataSet) (global : ℕ) (fields : InForce) (payload : List ℕ) → first_refusal (list_tests types fields payload) ≡ None → fits types (list_of global fields payload) ≡ true
 list_fits types global fields payload h = by (set_named (texts_of fields).type_name types) refl (list_passes types fields payload h)
@@ -130,10 +130,10 @@ list_fits types global fields payload h = by (set_named (texts_of fields).type_n
     by : (o : Option DataSet) → set_named (texts_of fields).type_name types ≡ o → Passes types (texts_of fields) (codes_of payload) → fits types (list_of global fields payload) ≡ true
     by None is pass = absurd (both_ways (is_none (set_named (texts_of fields).type_name types)) pass.known (ap is_none is))
     by (Some set) is pass =
-      let texts = texts_of fields in
-      let codes = codes_of payload in
-      let sources : sources_of types texts.type_name ≡ set.sources = ap (λ (o : Option DataSet). option_map_or (λ s. s.sources) o []) is in
-      fits_named types (list_of global fields payload) set
+        let texts = texts_of fields in
+        let codes = codes_of payload in
+        let sources : sources_of types texts.type_name ≡ set.sources = ap (λ (o : Option DataSet). option_map_or (λ s. s.sources) o []) is in
+        fits_named types (list_of global fields payload) set
         (ap (λ (name : List ℕ). set_named name types) (type_stays texts pass.good) ∙ is)
         (values_fit codes set.sources (numbers_of payload) (pass.count ∙ ap length sources) (ap (λ (s : List DataSource). list_all is_code_of (zip codes s)) (sym sources) ∙ pass.kinds) pass.no_gauge)
 
@@ -146,12 +146,15 @@ outcome_fits types global fields kind payload = by (kind == VALUES) (kind == MES
   where
     Fits : Option (Result Item ItemRefusal) → Type 0
     Fits gave = IfSome (item_in gave) (λ item. item_fits types item ≡ true)
+
     list : (o : Option ItemRefusal) → first_refusal (list_tests types fields payload) ≡ o → Fits (Some (or_refusal (items.List (list_of global fields payload)) o))
     list None none = list_fits types global fields payload none
     list (Some refusal) some = tt
+
     note : (o : Option ItemRefusal) (item : Item) → item_fits types item ≡ true → Fits (Some (or_refusal item o))
     note None item fit = fit
     note (Some refusal) item fit = tt
+
     by : (values message : Bool) → Fits (cond values (Some (list_outcome types global fields payload)) (cond message (Some (note_outcome fields payload)) None))
     by true message = list (first_refusal (list_tests types fields payload)) refl
     by false true = note (first_refusal (note_tests fields (payload_text payload))) _ refl
