@@ -10,4 +10,4 @@ mod machine;
 mod outcome;
 
 pub use machine::start;
-pub use outcome::{Outcome, serve_words};
+pub use outcome::{Outcome, run_words};

@@ -1,5 +1,5 @@
 //! The program over what the machine gives it.
-use crate::{Outcome, serve_words};
+use crate::{Outcome, run_words};
 use cd_io::{RealWorld, Streams};
 use cd_registry::Telling;
 use cd_serve::End;
@@ -35,7 +35,10 @@ fn serve_here(rt: &HostRuntime) -> Outcome {
     };
     let mut world = RealWorld::new(*rt);
     let mut input = Streams::new(rt.stdin(), rt.stdout());
-    serve_words(alloc, words.as_slice(), &mut world, &mut input, object)
+    match run_words(alloc, words.as_slice(), &mut world, &mut input, object) {
+        Some(ran) => Outcome::of(alloc, ran.end),
+        None => Outcome::of(alloc, End::Memory),
+    }
 }
 
 /// Serves, writes what is to be said on standard error, and gives the exit status.

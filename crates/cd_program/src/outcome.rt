@@ -1,14 +1,14 @@
 //! What the program does over a world and a link.
-ghost use Rattle.std.specs.Prelude.{◌≡◌, ◌↔◌, false, IfOk, IfSome, map, string_bytes};
-ghost use Rattle.cd_io.specs.Link.{LinkTells};
+ghost use Rattle.std.specs.Prelude.{◌≡◌, ◌⊎◌, true, false, IfNone, IfOk, IfSome, map, string_bytes};
+ghost use Rattle.cd_io.specs.Causes.{Rose};
 ghost use Rattle.cd_serve.specs.Ends.{message_of, status_of};
-ghost use Rattle.cd_serve.specs.Promises.{Promises, is_lines};
+ghost use Rattle.cd_serve.specs.Promises.{IsWithin, Promises, is_lines};
 ghost use Rattle.cd_serve.specs.Shelf.{on_shelf};
-ghost use Rattle.cd_program.specs.Program.{IsRun, writer};
+ghost use Rattle.cd_program.specs.Program.{writer};
 
 use cd_io::{Link, World};
 use cd_registry::{Kinds, Plug};
-use cd_serve::{End, Shelved, run, status, text_of};
+use cd_serve::{End, Ran, Shelved, run, status, text_of};
 use cd_value::{Memory, Text};
 use std::alloc::Global;
 use std::marker::Send;
@@ -43,7 +43,8 @@ impl Outcome {
 
 /// A shelf with one writer, `w`.
 fn shelf_of(alloc: Global, object: Box<dyn Plug + Send>) -> Result<Vec<Shelved>, Memory>
-    ensures { IfOk result (λ plugs. on_shelf ⟦<Box<dyn Plug + Send> as Plug>⟧.plug_tells plugs.items
+    ensures { IfOk result (λ plugs.
+        on_shelf ⟦<Box<dyn Plug + Send> as Plug>⟧.plug_tells plugs.items
         ≡ writer (⟦<Box<dyn Plug + Send> as Plug>⟧.plug_tells object)) }
 {
     let plug = Shelved {
@@ -56,25 +57,34 @@ fn shelf_of(alloc: Global, object: Box<dyn Plug + Send>) -> Result<Vec<Shelved>,
     Ok(plugs)
 }
 
-/// Serves lines, where the words are for that, with one writer, `w`.
-pub fn serve_words<W: World, L: Link>(
+/// Runs the daemon by these words with one writer, `w`, called with value lists. It answers nothing where memory was
+/// lacking for the shelf; then nothing was done.
+pub fn run_words<W: World, L: Link>(
     alloc: Global,
     words: &[String],
     world: &mut W,
     input: &mut L,
     object: Box<dyn Plug + Send>,
-) -> Outcome
-    ensures run { IsRun (⟦<Box<dyn Plug + Send> as Plug>⟧.plug_tells object)
+) -> Option<Ran>
+    ensures promises { IfSome result (λ ran. Promises
+        (writer (⟦<Box<dyn Plug + Send> as Plug>⟧.plug_tells object))
+        (on_shelf ⟦<Box<dyn Plug + Send> as Plug>⟧.plug_tells ran.plugs.items)
+        ran.given
         (record { clock = W.world_clock_pair world.old; dice = W.world_dice_pair world.old })
-        (L.link_tells input.old) (L.link_tells input.new) result.end }
-    ensures status { result.status ≡ status_of result.end }
-    ensures message { IfSome result.message (λ text. text ≡ message_of result.end) }
+        (L.link_tells input.old) (L.link_tells input.new)
+        ran.end) }
+    ensures usage { IfSome result (λ ran.
+        ran.end ≡ End.Usage → is_lines (map string_bytes words.now) ≡ false) }
+    ensures serves { IfSome result (λ ran.
+        is_lines (map string_bytes words.now) ≡ false → ran.end ≡ End.Usage) }
+    ensures complete { IfSome result (λ ran. is_lines (map string_bytes words.now) ≡ true
+        → (Rose (L.link_tells input.old).faults (L.link_tells input.new).faults → ⊥)
+        → IsWithin (L.link_tells input.old) (L.link_tells input.new)
+        → (ran.end ≡ End.Done) ⊎ (ran.end ≡ End.Memory)) }
+    ensures none { IfNone result (L.link_tells input.new ≡ L.link_tells input.old) }
 {
     match shelf_of(alloc, object) {
-        Ok(plugs) => {
-            let ran = run(alloc, words, world, input, plugs, Vec::new(alloc));
-            Outcome::of(alloc, ran.end)
-        }
-        Err(_) => Outcome::of(alloc, End::Memory),
+        Ok(plugs) => Some(run(alloc, words, world, input, plugs, Vec::new(alloc))),
+        Err(_) => None,
     }
 }

@@ -315,3 +315,31 @@ fn boxed_plug_in_comes_back(rt: HostRuntime) -> Result<(), Fail> {
     assert_eq!(rt; ran.plugs.len(), 1);
     Ok(())
 }
+
+/// Five lines, one of them refused, and what is written for them.
+const FIVE: (&str, &str) = (
+    "PUTVAL h/p/derive interval=10 1000:5 1010:7\nGETVAL h/p/derive\nFOO\nPUTVAL h/p/gauge 1:1\nLISTVAL\n",
+    "0 Success\n1 Value found\nvalue=0.200000\n-1 Unknown command\n0 Success\n2 Values found\n1010 h/p/derive\n1 h/p/gauge\n",
+);
+
+/// Whether five lines were served whole, or memory was lacking and what was said is a beginning; the writer is back.
+fn ends_well(ran: &RanOf<Telling, ()>, output: &[u8]) -> bool {
+    let whole = FIVE.1.as_bytes();
+    let back = ran.plugs.len() == 1;
+    match ran.end {
+        End::Done => back && output == whole,
+        End::Memory => back && whole.starts_with(output),
+        _ => false,
+    }
+}
+
+/// `rt try --test --fail-alloc N` runs this with the Nth allocation failing: where that is one of the test's own, or the link
+/// couldn't keep what was said, the test ends with that, and else it passes.
+#[test]
+fn five_lines_end_well_or_lack_memory(rt: HostRuntime) -> Result<(), Fail> {
+    let alloc = rt.alloc();
+    let plan = LinkPlan::new(alloc);
+    let (ran, output) = ran(alloc, "--lines", FIVE.0.as_bytes(), plan)?;
+    assert!(rt; ends_well(&ran, output.as_slice()));
+    Ok(())
+}
