@@ -53,16 +53,16 @@ list_passes types fields payload h =
     let codes = codes_of payload in
     let sources = sources_of types texts.type_name in
     let first = passes (not (are_texts fields), NotText) (drop 1 tests) h in
-    let second = passes (has_bad_field texts || has_long_field texts || not (are_times fields), BadField) (drop 2 tests) first.1 in
+    let second = passes (has_long_field texts || has_bad_field texts || not (are_times fields), BadField) (drop 2 tests) first.1 in
     let third = passes (list_any is_gauge_code codes, Gauge) (drop 3 tests) second.1 in
     let fourth = passes (is_none (set_named texts.type_name types), UnknownType) (drop 4 tests) third.1 in
     let fifth = passes (not (length codes == length sources), WrongCount) (drop 5 tests) fourth.1 in
     let sixth = passes (not (list_all is_code_of (zip codes sources)), WrongKind) (drop 6 tests) fifth.1 in
-    let apart = or_parts (has_bad_field texts || has_long_field texts) (not (are_times fields)) second.0 in
-    let both = or_parts (has_bad_field texts) (has_long_field texts) apart.0 in
+    let apart = or_parts (has_long_field texts || has_bad_field texts) (not (are_times fields)) second.0 in
+    let both = or_parts (has_long_field texts) (has_bad_field texts) apart.0 in
     record {
-      good = both.0;
-      short = both.1;
+      good = both.1;
+      short = both.0;
       no_gauge = third.0;
       known = fourth.0;
       count = eqb-true (length codes) (length sources) (not-false (length codes == length sources) fifth.0);

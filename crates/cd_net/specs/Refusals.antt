@@ -61,7 +61,7 @@ list_tests types fields payload =
     let codes = codes_of payload in
     let sources = sources_of types texts.type_name in
     (not (are_texts fields), NotText)
-    ∷ (has_bad_field texts || has_long_field texts || not (are_times fields), BadField)
+    ∷ (has_long_field texts || has_bad_field texts || not (are_times fields), BadField)
     ∷ (list_any is_gauge_code codes, Gauge)
     ∷ (is_none (set_named texts.type_name types), UnknownType)
     ∷ (not (length codes == length sources), WrongCount)

@@ -86,7 +86,8 @@ fn list_refusal(fields: &Carried<'_>, payload: &[u8], types: &TypesDb) -> Option
     if !fields.are_texts() {
         return Some(ItemRefusal::NotText);
     }
-    if fields.has_bad_text() || fields.has_long_text() || !fields.are_times() {
+    // The lengths first: a text is then looked through only where it is short, so a packet takes a time linear in its bytes.
+    if fields.has_long_text() || fields.has_bad_text() || !fields.are_times() {
         return Some(ItemRefusal::BadField);
     }
     let (codes, _) = codes_and_numbers(payload);
