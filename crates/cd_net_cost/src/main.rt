@@ -1,5 +1,5 @@
-//! What decoding a packet costs. With one word, TIMES, it decodes a full packet so often and prints the time; with a second
-//! word, a packet in which each field is as long as it may be. Without words it prints nothing.
+//! What decoding a packet costs. With a word, TIMES, it decodes a full packet so often and prints the time. Without words it
+//! prints nothing.
 #![tactic(auto)]
 
 use cd_net::items;
