@@ -1,5 +1,0 @@
-pub mod Cleaned
-pub mod Decoding
-pub mod Fields
-pub mod Fitting
-pub mod Texts
