@@ -7,7 +7,7 @@ use Rattle.cd_text.specs.Digits.{are_digits, is_dot, after_place}
 use Rattle.cd_text.specs.declared.numbers.TheConstants.{FRACTION_LIMIT, SECONDS_END}
 use Rattle.cd_text.specs.declared.time.Seconds.{Seconds}
 use Rattle.cd_text.specs.declared.fault.NumFault.{NumFault}
-use Rattle.cd_value.specs.declared.numbers.TheConstants.{SECOND}
+use Rattle.cd_value.specs.declared.numbers.TheConstants.{MILLIONTHS, SECOND}
 use Rattle.cd_text.specs.declared.fault.NumFault.TheVariants.{BadNumber, OutOfRange}
 
 -- the parts of a time's text: whole seconds and, behind a dot, digits of a second
@@ -44,7 +44,7 @@ time_of t =
 
 -- millionths of a second as a time, cut to the unit of 2^-30 s below
 abbrev pub units_of_millionths : ℤ → ℕ
-units_of_millionths (pos n) = n * SECOND / 10 ^ 6
+units_of_millionths (pos n) = n * SECOND / MILLIONTHS
 units_of_millionths (negsuc n) = 0
 
 -- the parts that the code holds

@@ -30,7 +30,7 @@ ghost use Rattle.std.specs.Str.Parse.{digits_value, digits_value_after};
 use crate::digits::{all_digits, place_of_dot, with_digits};
 use crate::fault::NumFault;
 use crate::numbers::{DURATION_LIMIT, FRACTION_LIMIT, SECONDS_END};
-use cd_value::SECOND;
+use cd_value::{MILLIONTHS, SECOND};
 
 /// The parts of a time's text.
 #[derive(Clone, Copy)]
@@ -153,5 +153,5 @@ pub fn to_time(millionths: i128) -> u64
     requires high { millionths ≤ℤ DURATION_LIMIT }
     ensures { result ≡ units_of_millionths millionths }
 {
-    (millionths as u128 * SECOND as u128 / 1_000_000) as u64
+    (millionths as u128 * SECOND as u128 / MILLIONTHS) as u64
 }

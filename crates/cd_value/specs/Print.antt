@@ -2,6 +2,7 @@
 use Rattle.std.specs.Prelude.{ℕ, ◌+◌, ◌/◌, ◌%◌, ◌^◌, List, [], ◌∷◌, ◌++◌, ℤ, pos, negsuc, suc, Option, Some, None, codes}
 use Rattle.std.specs.Fmt.{decimal}
 use Rattle.cd_value.specs.declared.data.Rate.{Rate}
+use Rattle.cd_value.specs.declared.numbers.TheConstants.{MILLIONTHS}
 use Rattle.cd_value.specs.Rates.{millionths}
 
 -- the last decimal digit of a number
@@ -16,7 +17,7 @@ six_digits n =
 
 -- the whole units, a dot and six decimals
 abbrev pub unsigned_text : ℕ → List ℕ
-unsigned_text n = decimal (n / 10 ^ 6) ++ 46 ∷ six_digits (n % 10 ^ 6)
+unsigned_text n = decimal (n / MILLIONTHS) ++ 46 ∷ six_digits (n % MILLIONTHS)
 
 -- with a minus only below zero
 abbrev pub millionths_text : ℤ → List ℕ

@@ -5,7 +5,7 @@ use Rattle.cd_value.specs.declared.data.Value.TheVariants.{Counter, Gauge, Deriv
 use Rattle.cd_value.specs.declared.data.DataSource.{DataSource}
 use Rattle.cd_value.specs.declared.data.Rate.{Rate}
 use Rattle.cd_value.specs.declared.data.Rate.TheVariants.{Known, Unknown}
-use Rattle.cd_value.specs.declared.numbers.TheConstants.{SECOND, WRAP_OF_32_BITS}
+use Rattle.cd_value.specs.declared.numbers.TheConstants.{MILLIONTHS, SECOND, WRAP_OF_32_BITS}
 
 -- a rate is known, and its denominator isn't 0
 abbrev pub is_known : Rate → Bool
@@ -41,7 +41,7 @@ IsCutOf Unknown m = ⊥
 
 -- a change over a time, in millionths per second
 abbrev pub per_second : ℤ → ℕ → Rate
-per_second change dt = if dt == 0 then Unknown else Known (change *ℤ pos (10 ^ 6 * SECOND)) dt
+per_second change dt = if dt == 0 then Unknown else Known (change *ℤ pos (MILLIONTHS * SECOND)) dt
 
 -- where a counter wraps that stood at a value
 abbrev pub wrap_of : ℕ → ℕ
@@ -89,7 +89,7 @@ LeadsTo from count to = from + count ≡ (if nat_le from to then to else to + wr
 -- value to the new
 abbrev pub IsOfCount : Option Value → Value → ℕ → Rate → Type 0
 IsOfCount (Some (Counter from)) (Counter to) dt (Known num den) =
-    (count : ℕ) × LeadsTo from count to × (num ≡ pos (count * (10 ^ 6 * SECOND))) × (den ≡ dt)
+    (count : ℕ) × LeadsTo from count to × (num ≡ pos (count * (MILLIONTHS * SECOND))) × (den ≡ dt)
 IsOfCount _ _ _ _ = Unit {0}
 
 -- the rate of a value against the one before it, which came dt earlier

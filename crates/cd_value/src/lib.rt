@@ -25,7 +25,7 @@ pub use data::{
 pub use field::{clean, longest_front};
 pub use identifier::{IdFault, Identifier};
 pub use memory::{Memory, Refused, TryCopy};
-pub use numbers::{FIELD_LIMIT, MESSAGE_LIMIT, NUMBER_LIMIT, SECOND, WRAP_OF_32_BITS};
+pub use numbers::{FIELD_LIMIT, MESSAGE_LIMIT, MILLIONTHS, NUMBER_LIMIT, SECOND, WRAP_OF_32_BITS};
 pub use print::print_millionths;
 pub use sequence::Sequence;
 pub use text::Text;

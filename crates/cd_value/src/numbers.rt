@@ -9,6 +9,9 @@ pub const FIELD_LIMIT: usize = 127;
 /// The most bytes that the message of a notification has.
 pub const MESSAGE_LIMIT: usize = 255;
 
+/// The millionths in one: gauges, bounds and the numbers of a configuration are whole numbers of them.
+pub const MILLIONTHS: u128 = 1_000_000;
+
 /// The greatest magnitude of a gauge and of a bound, in millionths.
 pub const NUMBER_LIMIT: u128 = 1_000_000_000_000_000_000_000_000_000_000;
 

@@ -3,7 +3,7 @@ ghost use Rattle.std.specs.Prelude.{◌≡◌, ◌++◌, ◌∷◌, [], IfOk, On
 ghost use Rattle.cd_value.specs.Print.{digit, millionths_text, rate_text, six_digits};
 ghost use Rattle.cd_value.specs.Rates.{is_known};
 
-use crate::{Memory, Rate, Text};
+use crate::{MILLIONTHS, Memory, Rate, Text};
 use std::alloc::{AllocError, Global};
 
 /// A number of millionths as its whole units, a dot and six decimals, with `-` only where it is
@@ -12,13 +12,13 @@ pub fn print_millionths(alloc: Global, value: i128) -> Result<Text, Memory>
     ensures { IfOk result (λ text. text ≡ millionths_text value) }
 {
     let size = value.unsigned_abs();
-    let units = size / 1_000_000;
+    let units = size / MILLIONTHS;
     let mut text = if value < 0 {
         format!(in alloc; "-{units}.")?
     } else {
         format!(in alloc; "{units}.")?
     };
-    push_six_digits(&mut text, size % 1_000_000)?;
+    push_six_digits(&mut text, size % MILLIONTHS)?;
     Ok(Text::from_string(text))
 }
 

@@ -4,10 +4,11 @@ ghost use Rattle.std.specs.Option.{option_copied};
 ghost use Rattle.cd_value.specs.Rates.{IsCutOf, IsOfCount, LeadsTo, is_gauge, is_known, rate_of, rate_of_change};
 ghost use Rattle.cd_value.specs.Rates as rates;
 
-use crate::{DataSource, Rate, SECOND, Value, WRAP_OF_32_BITS};
+use crate::{DataSource, MILLIONTHS, Rate, SECOND, Value, WRAP_OF_32_BITS};
 
-/// A second, times the millionths in one.
-const MILLIONTHS_PER_UNIT: i128 = 1_000_000 * SECOND as i128;
+/// What a change of one adds to the numerator of a rate, which is in millionths per second over a
+/// denominator in 2^-30 s.
+const CHANGE_OF_ONE: i128 = MILLIONTHS as i128 * SECOND as i128;
 
 impl Rate {
     /// The rate of a value of a source against the value before it, which came `dt` (in 2^-30 s)
@@ -165,7 +166,7 @@ fn per_second(change: i128, dt: u64) -> Rate
         return Rate::Unknown;
     }
     Rate::Known {
-        num: change * MILLIONTHS_PER_UNIT,
+        num: change * CHANGE_OF_ONE,
         den: dt,
     }
 }
