@@ -1,0 +1,58 @@
+-- Blanks one after the other.
+use Rattle.std.proofs.Common.{◌≡◌, ℕ, ◌+◌, ◌==◌, List, [], ◌∷◌, Bool, true, false, refl, ap, sym, ◌∙◌, Option, Some, None, MatchOption}
+use Rattle.std.specs.Option.{option_map}
+use Rattle.cd_conf.specs.Position.{Position, at}
+use Rattle.cd_conf.specs.Blanks.{is_blank, after_blanks, after_newline, behind_blanks, behind_newline}
+use Rattle.cd_conf.specs.Place.{position}
+use Rattle.cd_conf.specs.declared.place.Place.{Place}
+
+-- a blank is passed over
+pub past_blank : (line c : ℕ) (cs : List ℕ) → is_blank c ≡ true → after_blanks line (c ∷ cs) ≡ after_blanks line cs
+unfolding after_blanks
+past_blank line c [] b = rw b refl
+past_blank line c (d ∷ cs) b = rw b refl
+
+-- so is a backslash directly before a newline
+pub past_join : (line c : ℕ) (cs : List ℕ) (next : Position) → c ≡ 92 → after_newline line cs ≡ Some next → after_blanks line (c ∷ cs) ≡ after_blanks next.line next.rest
+unfolding after_blanks
+past_join line c [] next b n = absurd (cc)
+past_join line c (d ∷ cs) next b n = joined (d == 10) refl
+  where
+    joined : (t : Bool) → (d == 10) ≡ t → after_blanks line (c ∷ d ∷ cs) ≡ after_blanks next.line next.rest
+    joined true e = rw (b, e) (let f : Some (at (line + 1) cs) ≡ Some next = sym (rw e refl) ∙ n in let g : at (line + 1) cs ≡ next = cc in ap (λ (p : Position). after_blanks p.line p.rest) g)
+    joined false e = absurd (let f : None ≡ Some next = sym (rw e refl) ∙ n in cc f)
+
+-- no blank stands at any other character
+pub no_blank : (line c : ℕ) (cs : List ℕ) → is_blank c ≡ false → (c == 92) ≡ false → after_blanks line (c ∷ cs) ≡ at line (c ∷ cs)
+unfolding after_blanks
+no_blank line c [] b n = rw b refl
+no_blank line c (d ∷ cs) b n = rw (b, n) refl
+
+-- nor at a backslash that no newline follows
+pub no_join : (line c : ℕ) (cs : List ℕ) → c ≡ 92 → after_newline line cs ≡ None → after_blanks line (c ∷ cs) ≡ at line (c ∷ cs)
+unfolding after_blanks
+no_join line c [] b n = rw b refl
+no_join line c (d ∷ cs) b n = apart (d == 10) refl
+  where
+    apart : (t : Bool) → (d == 10) ≡ t → after_blanks line (c ∷ d ∷ cs) ≡ at line (c ∷ d ∷ cs)
+    apart true e = absurd (let f : Some (at (line + 1) cs) ≡ None = sym (rw e refl) ∙ n in cc f)
+    apart false e = rw (b, e) refl
+
+-- nothing follows the end
+pub at_end : (line : ℕ) → after_blanks line [] ≡ at line []
+unfolding after_blanks
+at_end line = refl
+
+pub blank_first : (p : Position) (c : ℕ) (cs : List ℕ) → p.rest ≡ c ∷ cs → is_blank c ≡ true → behind_blanks p ≡ behind_blanks (at p.line cs)
+blank_first p c cs e b = ap (after_blanks p.line) e ∙ past_blank p.line c cs b
+
+pub other_first : (p : Position) (c : ℕ) (cs : List ℕ) → p.rest ≡ c ∷ cs → is_blank c ≡ false → (c == 92) ≡ false → behind_blanks p ≡ p
+other_first p c cs e b n = ap (after_blanks p.line) e ∙ no_blank p.line c cs b n ∙ ap (at p.line) (sym e)
+
+pub none_first : (p : Position) → p.rest ≡ [] → behind_blanks p ≡ p
+none_first p e = ap (after_blanks p.line) e ∙ at_end p.line ∙ ap (at p.line) (sym e)
+
+pub join_first : (p : Position) (c : ℕ) (cs : List ℕ) (r : Option Place) → p.rest ≡ c ∷ cs → c ≡ 92 → option_map position r ≡ behind_newline (at p.line cs)
+    → MatchOption r (behind_blanks p ≡ p) (λ next. behind_blanks p ≡ behind_blanks (position next))
+join_first p c cs None e b h = ap (after_blanks p.line) e ∙ no_join p.line c cs b (sym h) ∙ ap (at p.line) (sym e)
+join_first p c cs (Some next) e b h = ap (after_blanks p.line) e ∙ past_join p.line c cs (position next) b (sym h)

@@ -1,0 +1,46 @@
+-- Keys and words, one character after the other.
+use Rattle.std.proofs.Common.{◌≡◌, ℕ, List, [], ◌∷◌, ◌++◌, Bool, true, false, refl, ap, sym, ◌∙◌, append_assoc, add_comm, add-one}
+use native.Mathlib.Numerals.{unary_clauses}
+use Rattle.std.specs.Char.{encode_utf8}
+use Rattle.std.specs.List.{take_while, prefix_len}
+use Rattle.std.specs.Str.{encode_utf8_all}
+use Rattle.cd_conf.specs.Blanks.{skip_while}
+use Rattle.cd_conf.specs.Characters.{may_stand, front_run, after_run}
+use Rattle.cd_conf.specs.declared.runs.Kind.{Kind}
+
+while_more : (p : ℕ → Bool) (c : ℕ) (cs : List ℕ) → p c ≡ true → take_while p (c ∷ cs) ≡ c ∷ take_while p cs
+while_more p c cs h = rw (h, add_comm 1 (prefix_len p cs), add-one) refl
+
+pub front_more : (kind : Kind) (c : ℕ) (cs : List ℕ) → may_stand kind c ≡ true → front_run kind (c ∷ cs) ≡ encode_utf8 c ++ front_run kind cs
+front_more kind c cs h = ap encode_utf8_all (while_more (may_stand kind) c cs h)
+
+pub after_more : (kind : Kind) (c : ℕ) (cs : List ℕ) → may_stand kind c ≡ true → after_run kind (c ∷ cs) ≡ after_run kind cs
+unfolding skip_while
+after_more kind c cs h = rw h refl
+
+pub front_none : (kind : Kind) (c : ℕ) (cs : List ℕ) → may_stand kind c ≡ false → front_run kind (c ∷ cs) ≡ []
+front_none kind c cs h = rw h refl
+
+pub after_none : (kind : Kind) (c : ℕ) (cs : List ℕ) → may_stand kind c ≡ false → after_run kind (c ∷ cs) ≡ c ∷ cs
+unfolding skip_while
+after_none kind c cs h = rw h refl
+
+pub after_end : (kind : Kind) → after_run kind [] ≡ []
+unfolding skip_while
+after_end kind = refl
+
+-- one more character of the run is read
+pub front_goes_on : (kind : Kind) (c : ℕ) (text cs run more total : List ℕ) → may_stand kind c ≡ true → text ≡ c ∷ cs → more ≡ run ++ encode_utf8 c
+    → run ++ front_run kind text ≡ total → more ++ front_run kind cs ≡ total
+front_goes_on kind c text cs run more total h t m so_far =
+    ap (λ (xs : List ℕ). xs ++ front_run kind cs) m ∙ append_assoc run (encode_utf8 c) (front_run kind cs)
+    ∙ ap (λ (xs : List ℕ). run ++ xs) (sym (ap (front_run kind) t ∙ front_more kind c cs h)) ∙ so_far
+
+pub after_goes_on : (kind : Kind) (c : ℕ) (text cs total : List ℕ) → may_stand kind c ≡ true → text ≡ c ∷ cs → after_run kind text ≡ total → after_run kind cs ≡ total
+after_goes_on kind c text cs total h t so_far = sym (ap (after_run kind) t ∙ after_more kind c cs h) ∙ so_far
+
+pub after_all : (kind : Kind) (text : List ℕ) → text ≡ [] → after_run kind text ≡ text
+after_all kind text e = ap (after_run kind) e ∙ after_end kind ∙ sym e
+
+pub after_other : (kind : Kind) (c : ℕ) (text cs : List ℕ) → may_stand kind c ≡ false → text ≡ c ∷ cs → after_run kind text ≡ text
+after_other kind c text cs h e = ap (after_run kind) e ∙ after_none kind c cs h ∙ sym e

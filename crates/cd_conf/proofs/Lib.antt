@@ -1,0 +1,4 @@
+pub mod BlankRuns
+pub mod CharacterRuns
+pub mod QuoteRuns
+pub mod Magnitudes

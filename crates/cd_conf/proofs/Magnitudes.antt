@@ -1,0 +1,35 @@
+-- The value of digits, and its limit.
+use Rattle.std.proofs.Common.{◌≡◌, ℕ, ◌+◌, ◌*◌, ◌<◌, ◌≤◌, Bool, true, false, List, [], ◌∷◌, length, drop, get_or, Option, Some, None, refl, sym, ap, ◌∙◌, arith, add-one, drop-cons}
+use Rattle.std.specs.Char.{digit_value}
+use Rattle.std.specs.Str.Parse.{digits_value_after}
+use Rattle.std.specs.List.{list_all}
+use Rattle.std.specs.Prelude.{nat_le}
+use Rattle.std.proofs.Math.Nat.{mul-le-mul_left}
+use Rattle.std.proofs.lemmas.Bool.{le-leb, lt-leb, leb-true, leb-false}
+use Rattle.cd_conf.specs.Numbers.{at_most}
+
+-- more digits make no smaller number
+pub grows : (base n : ℕ) (ds : List ℕ) → 1 ≤ base → n ≤ digits_value_after base n ds
+grows base n [] b = omega arith
+grows base n (d ∷ ds) b =
+    let h = grows base (n * base + digit_value d) ds b in
+    let g : n * 1 ≤ n * base = mul-le-mul_left n b in
+    omega (arith, h, g)
+
+-- one digit more
+pub one_more : (base n : ℕ) (ds : List ℕ) (i : ℕ) → i < length ds → digits_value_after base n (drop i ds) ≡ digits_value_after base (n * base + digit_value (get_or ds i 0)) (drop (i + 1) ds)
+one_more base n ds i lt = ap (digits_value_after base n) (rw add-one (drop-cons ds i 0 lt))
+
+pub above : (limit n m : ℕ) → at_most limit n ≡ None → n ≤ m → at_most limit m ≡ None
+above limit n m h le = past (nat_le n limit) refl
+  where
+    past : (t : Bool) → nat_le n limit ≡ t → at_most limit m ≡ None
+    past true e = absurd (let f : Some n ≡ None = sym (rw e refl) ∙ h in cc f)
+    past false e = rw (lt-leb m limit (omega (arith, leb-false n limit e))) refl
+
+pub within : (limit n m : ℕ) → at_most limit n ≡ Some m → (m ≡ n) × (n ≤ limit)
+within limit n m h = by (nat_le n limit) refl
+  where
+    by : (t : Bool) → nat_le n limit ≡ t → (m ≡ n) × (n ≤ limit)
+    by true e = let f : Some n ≡ Some m = sym (rw e refl) ∙ h in (cc, leb-true n limit e)
+    by false e = absurd (let f : None ≡ Some m = sym (rw e refl) ∙ h in cc f)

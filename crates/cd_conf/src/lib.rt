@@ -1,0 +1,16 @@
+//! The text of a configuration file, as collectd.conf(5) has it.
+#![tactic(auto)]
+
+mod blanks;
+mod chars;
+mod fault;
+mod item;
+mod limits;
+mod numbers;
+mod place;
+mod quotes;
+mod runs;
+
+pub use fault::{ConfFault, ConfKind};
+pub use item::{Arg, Args, Item, Items};
+pub use limits::{DECIMALS_LIMIT, FILE_LIMIT, NESTING_LIMIT, NUMBER_LIMIT};

@@ -1,0 +1,63 @@
+//! Keys, and words without quotes.
+ghost use Rattle.cd_conf.specs.Characters.{after_run, front_run, may_stand};
+ghost use Rattle.std.specs.Prelude.{IfNone, IfOk, IfSome, [], length, true, ◌<◌, ◌∷◌, ◌≡◌, ◌≤◌};
+ghost use Rattle.std.specs.Str.{IsUtf8, chars};
+
+use crate::chars::split_first;
+use cd_value::{Memory, Text};
+use std::alloc::Global;
+
+/// What a run of characters is.
+#[derive(Clone, Copy)]
+pub enum Kind {
+    /// A key.
+    Key,
+    /// A word without quotes.
+    Word,
+}
+
+/// Whether a character belongs to a key or a word.
+fn may_stand(kind: Kind, c: char) -> bool
+    ensures { result ≡ may_stand kind c }
+{
+    let in_key = c.is_ascii_alphanumeric() || c == '_';
+    match kind {
+        Kind::Key => in_key,
+        Kind::Word => in_key || c == '.' || c == '/' || c == ':' || c == '-' || c == '+',
+    }
+}
+
+/// The first character, where it may stand, and what follows it.
+fn split_member(kind: Kind, text: &str) -> Option<(char, &str)>
+    ensures none { IfNone result (after_run kind (chars text.now) ≡ chars text.now) }
+    ensures empty { IfNone result (front_run kind (chars text.now) ≡ []) }
+    ensures member { IfSome result (λ cut. may_stand kind cut.0 ≡ true) }
+    ensures first { IfSome result (λ cut. chars text.now ≡ cut.0 ∷ chars cut.1.now) }
+    ensures text { IfSome result (λ cut. IsUtf8 cut.1.now) }
+    ensures shorter { IfSome result (λ cut. length cut.1.now < length text.now) }
+{
+    match split_first(text) {
+        None => None,
+        Some((c, rest)) => if may_stand(kind, c) {
+            Some((c, rest))
+        } else {
+            None
+        }
+    }
+}
+
+/// The key or word at the front of a text, which may be empty, and what follows it.
+pub fn split_run<'a>(alloc: Global, kind: Kind, text: &'a str) -> Result<(Text, &'a str), Memory>
+    ensures run { IfOk result (λ cut. cut.0 ≡ front_run kind (chars text.now)) }
+    ensures rest { IfOk result (λ cut. chars cut.1.now ≡ after_run kind (chars text.now)) }
+    ensures text { IfOk result (λ cut. IsUtf8 cut.1.now) }
+    ensures later { IfOk result (λ cut. length cut.1.now ≤ length text.now) }
+{
+    let mut run = String::new(alloc);
+    let mut rest = text;
+    while let Some((c, more)) = split_member(kind, rest) {
+        run.push(c)?;
+        rest = more;
+    }
+    Ok((Text::from_string(run), rest))
+}
