@@ -1,8 +1,9 @@
 -- Blanks one after the other.
-use Rattle.std.proofs.Common.{◌≡◌, ℕ, ◌+◌, ◌==◌, List, [], ◌∷◌, Bool, true, false, refl, ap, sym, ◌∙◌, Option, Some, None, MatchOption}
+use Rattle.std.proofs.Common.{◌≡◌, ℕ, ◌+◌, ◌==◌, List, [], ◌∷◌, Bool, true, false, not, refl, ap, sym, ◌∙◌, Option, Some, None, MatchOption}
 use Rattle.std.specs.Option.{option_map}
+use Rattle.std.proofs.lemmas.Bool.{ne_eqb}
 use Rattle.cd_conf.specs.Position.{Position, at}
-use Rattle.cd_conf.specs.Blanks.{is_blank, after_blanks, after_newline, behind_blanks, behind_newline}
+use Rattle.cd_conf.specs.Blanks.{is_blank, is_newline, after_blanks, after_newline, behind_blanks, behind_newline, line_after, line_behind_newline, next_line, skip_while}
 use Rattle.cd_conf.specs.Place.{position}
 use Rattle.cd_conf.specs.declared.place.Place.{Place}
 
@@ -56,3 +57,26 @@ pub join_first : (p : Position) (c : ℕ) (cs : List ℕ) (r : Option Place) →
     → MatchOption r (behind_blanks p ≡ p) (λ next. behind_blanks p ≡ behind_blanks (position next))
 join_first p c cs None e b h = ap (after_blanks p.line) e ∙ no_join p.line c cs b (sym h) ∙ ap (at p.line) (sym e)
 join_first p c cs (Some next) e b h = ap (after_blanks p.line) e ∙ past_join p.line c cs (position next) b (sym h)
+
+-- ---- the next line
+
+pub newline_here : (p q : Position) (c : ℕ) → p.rest ≡ c ∷ q.rest → q.line ≡ line_after p.line c → c ≡ 10 → behind_blanks q ≡ next_line p
+unfolding skip_while
+newline_here p q c e l h =
+    let line : line_after p.line c ≡ p.line + 1 = rw h refl in
+    let here : next_line p ≡ after_blanks (p.line + 1) q.rest = ap (λ (cs : List ℕ). line_behind_newline p.line (skip_while (λ c. not (is_newline c)) cs)) e ∙ rw h refl in
+    ap (λ (n : ℕ). after_blanks n q.rest) (l ∙ line) ∙ sym here
+
+pub line_goes_on : (p q : Position) (c : ℕ) → p.rest ≡ c ∷ q.rest → q.line ≡ line_after p.line c → (c ≡ 10 → ⊥) → next_line q ≡ next_line p
+unfolding skip_while
+line_goes_on p q c e l h =
+    let no : (c == 10) ≡ false = ne_eqb c 10 h in
+    let line : line_after p.line c ≡ p.line = rw no refl in
+    let here : next_line p ≡ line_behind_newline p.line (skip_while (λ c. not (is_newline c)) q.rest)
+      = ap (λ (cs : List ℕ). line_behind_newline p.line (skip_while (λ c. not (is_newline c)) cs)) e ∙ rw no refl in
+    ap (λ (n : ℕ). line_behind_newline n (skip_while (λ c. not (is_newline c)) q.rest)) (l ∙ line) ∙ sym here
+
+pub text_ends : (p : Position) → p.rest ≡ [] → p ≡ next_line p
+unfolding skip_while
+text_ends p e =
+    ap (at p.line) e ∙ sym (ap (λ (cs : List ℕ). line_behind_newline p.line (skip_while (λ c. not (is_newline c)) cs)) e)

@@ -1,5 +1,5 @@
 -- Keys and words, one character after the other.
-use Rattle.std.proofs.Common.{◌≡◌, ℕ, List, [], ◌∷◌, ◌++◌, Bool, true, false, refl, ap, sym, ◌∙◌, append_assoc, add_comm, add-one}
+use Rattle.std.proofs.Common.{◌≡◌, ℕ, ◌<◌, ◌≤◌, length, arith, List, [], ◌∷◌, ◌++◌, Bool, true, false, refl, ap, sym, ◌∙◌, append_assoc, add_comm, add-one}
 use native.Mathlib.Numerals.{unary_clauses}
 use Rattle.std.specs.Char.{encode_utf8}
 use Rattle.std.specs.List.{take_while, prefix_len}
@@ -44,3 +44,20 @@ after_all kind text e = ap (after_run kind) e ∙ after_end kind ∙ sym e
 
 pub after_other : (kind : Kind) (c : ℕ) (text cs : List ℕ) → may_stand kind c ≡ false → text ≡ c ∷ cs → after_run kind text ≡ text
 after_other kind c text cs h e = ap (after_run kind) e ∙ after_none kind c cs h ∙ sym e
+
+skipped : (p : ℕ → Bool) (cs : List ℕ) → length (skip_while p cs) ≤ length cs
+unfolding skip_while
+skipped p [] = omega arith
+skipped p (c ∷ cs) = by (p c) refl (skipped p cs)
+  where
+    by : (t : Bool) → p c ≡ t → length (skip_while p cs) ≤ length cs → length (skip_while p (c ∷ cs)) ≤ length (c ∷ cs)
+    by true e h = rw e (omega (arith, h))
+    by false e h = rw e (omega arith)
+
+-- a run that has a character ends behind it
+pub run_shorter : (kind : Kind) (c : ℕ) (text cs : List ℕ) → may_stand kind c ≡ true → text ≡ c ∷ cs → length (after_run kind text) < length text
+run_shorter kind c text cs h e =
+    let s = skipped (may_stand kind) cs in
+    let l : length (after_run kind text) ≡ length (after_run kind cs) = ap length (ap (after_run kind) e ∙ after_more kind c cs h) in
+    let m : length text ≡ length (c ∷ cs) = ap length e in
+    omega (arith, s, l, m)

@@ -1,10 +1,10 @@
 -- The value of digits, and its limit.
-use Rattle.std.proofs.Common.{◌≡◌, ℕ, ◌+◌, ◌*◌, ◌<◌, ◌≤◌, Bool, true, false, List, [], ◌∷◌, length, drop, get_or, Option, Some, None, refl, sym, ap, ◌∙◌, arith, add-one, drop-cons}
+use Rattle.std.proofs.Common.{◌≡◌, ℕ, ◌+◌, ◌*◌, ◌^◌, ◌<◌, ◌≤◌, Bool, true, false, List, [], ◌∷◌, length, drop, get_or, Option, Some, None, refl, sym, ap, ◌∙◌, arith, add-one, drop-cons, lit<}
 use Rattle.std.specs.Char.{digit_value}
 use Rattle.std.specs.Str.Parse.{digits_value_after}
 use Rattle.std.specs.List.{list_all}
 use Rattle.std.specs.Prelude.{nat_le}
-use Rattle.std.proofs.Math.Nat.{mul-le-mul_left}
+use Rattle.std.proofs.Math.Nat.{mul-le-mul_left, one-le-pow}
 use Rattle.std.proofs.lemmas.Bool.{le-leb, lt-leb, leb-true, leb-false}
 use Rattle.cd_conf.specs.Numbers.{at_most}
 
@@ -18,7 +18,9 @@ grows base n (d ∷ ds) b =
 
 -- one digit more
 pub one_more : (base n : ℕ) (ds : List ℕ) (i : ℕ) → i < length ds → digits_value_after base n (drop i ds) ≡ digits_value_after base (n * base + digit_value (get_or ds i 0)) (drop (i + 1) ds)
-one_more base n ds i lt = ap (digits_value_after base n) (rw add-one (drop-cons ds i 0 lt))
+one_more base n ds i lt =
+    let at : drop i ds ≡ get_or ds i 0 ∷ drop (i + 1) ds = rw add-one (drop-cons ds i 0 lt) in
+    ap (digits_value_after base n) at
 
 pub above : (limit n m : ℕ) → at_most limit n ≡ None → n ≤ m → at_most limit m ≡ None
 above limit n m h le = past (nat_le n limit) refl
@@ -33,3 +35,12 @@ within limit n m h = by (nat_le n limit) refl
     by : (t : Bool) → nat_le n limit ≡ t → (m ≡ n) × (n ≤ limit)
     by true e = let f : Some n ≡ Some m = sym (rw e refl) ∙ h in (cc, leb-true n limit e)
     by false e = absurd (let f : None ≡ Some m = sym (rw e refl) ∙ h in cc f)
+
+-- what is above the limit stays above it
+pub above_digits : (limit base n : ℕ) (ds : List ℕ) (total : ℕ) → 1 ≤ base → digits_value_after base n ds ≡ total → None ≡ at_most limit n → None ≡ at_most limit total
+above_digits limit base n ds total b e h =
+    let g = grows base n ds b in sym (above limit n total (sym h) (omega (arith, g)))
+
+pub above_power : (limit n k : ℕ) → None ≡ at_most limit n → None ≡ at_most limit (n * 10 ^ k)
+above_power limit n k h =
+    let g : n * 1 ≤ n * 10 ^ k = mul-le-mul_left n (one-le-pow k 10 (lit< tt)) in sym (above limit n (n * 10 ^ k) (sym h) (omega (arith, g)))

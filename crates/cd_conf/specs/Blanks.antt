@@ -41,3 +41,12 @@ is_newline c = c == 10
 abbrev pub is_line_end : List ℕ → Bool
 is_line_end [] = true
 is_line_end (c ∷ cs) = c == 10 || c == 35
+
+-- the position behind a newline and the blanks after it, or the text's end
+abbrev pub line_behind_newline : ℕ → List ℕ → Position
+line_behind_newline line [] = at line []
+line_behind_newline line (c ∷ cs) = after_blanks (line + 1) cs
+
+-- the position behind the blanks of the next line
+abbrev pub next_line : Position → Position
+next_line p = line_behind_newline p.line (skip_while (λ c. not (is_newline c)) p.rest)

@@ -6,3 +6,7 @@ pub mod Numbers
 pub mod Place
 pub mod Position
 pub mod Quotes
+pub mod Repeated
+pub mod Seen
+pub mod Statements
+pub mod Values

@@ -4,12 +4,16 @@
 mod blanks;
 mod chars;
 mod fault;
+mod form;
+mod head;
 mod item;
 mod limits;
+mod lines;
 mod numbers;
 mod place;
 mod quotes;
 mod runs;
+mod values;
 
 pub use fault::{ConfFault, ConfKind};
 pub use item::{Arg, Args, Item, Items};

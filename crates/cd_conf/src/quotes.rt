@@ -1,8 +1,8 @@
 //! Quoted strings.
-ghost use Rattle.cd_conf.specs.Place.{position};
+ghost use Rattle.cd_conf.specs.Place.{characters_left, position};
 ghost use Rattle.cd_conf.specs.Quotes.{inner_role, quoted_at, role_of};
 ghost use Rattle.std.specs.Option.{option_map};
-ghost use Rattle.std.specs.Prelude.{IfOk, IfSome, length, ◌<◌, ◌≡◌};
+ghost use Rattle.std.specs.Prelude.{IfOk, IfSome, ◌<◌, ◌≡◌};
 
 use crate::blanks::{is_blank, split_place};
 use crate::place::Place;
@@ -70,7 +70,7 @@ pub fn read_quoted<'a>(alloc: Global, place: Place<'a>) -> Result<Option<(Text, 
     ensures value { IfOk result (λ found.
         option_map (λ cut. (cut.0, position cut.1)) found ≡ quoted_at (position place.entry)) }
     ensures later { IfOk result (λ found.
-        IfSome found (λ cut. length cut.1.rest.now < length place.entry.rest.now)) }
+        IfSome found (λ cut. characters_left cut.1 < characters_left place.entry)) }
 {
     let mut text = String::new(alloc);
     let mut place = place;

@@ -1,5 +1,5 @@
 //! Keys, and words without quotes.
-ghost use Rattle.cd_conf.specs.Characters.{after_run, front_run, may_stand};
+ghost use Rattle.cd_conf.specs.Characters.{after_run, front_run, is_in_key, is_in_word, may_stand};
 ghost use Rattle.std.specs.Prelude.{IfNone, IfOk, IfSome, [], length, true, ◌<◌, ◌∷◌, ◌≡◌, ◌≤◌};
 ghost use Rattle.std.specs.Str.{IsUtf8, chars};
 
@@ -16,14 +16,27 @@ pub enum Kind {
     Word,
 }
 
-/// Whether a character belongs to a key or a word.
+/// Whether a character may stand in a key: a letter, a digit or `_`.
+fn is_in_key(c: char) -> bool
+    ensures { result ≡ is_in_key c }
+{
+    c.is_ascii_alphanumeric() || c == '_'
+}
+
+/// Whether a character may stand in a word without quotes: one of a key, or `.`, `/`, `:`, `-`, `+`.
+pub fn is_in_word(c: char) -> bool
+    ensures { result ≡ is_in_word c }
+{
+    is_in_key(c) || c == '.' || c == '/' || c == ':' || c == '-' || c == '+'
+}
+
+/// Whether a character may stand in a key or a word.
 fn may_stand(kind: Kind, c: char) -> bool
     ensures { result ≡ may_stand kind c }
 {
-    let in_key = c.is_ascii_alphanumeric() || c == '_';
     match kind {
-        Kind::Key => in_key,
-        Kind::Word => in_key || c == '.' || c == '/' || c == ':' || c == '-' || c == '+',
+        Kind::Key => is_in_key(c),
+        Kind::Word => is_in_word(c),
     }
 }
 
@@ -51,7 +64,7 @@ pub fn split_run<'a>(alloc: Global, kind: Kind, text: &'a str) -> Result<(Text, 
     ensures run { IfOk result (λ cut. cut.0 ≡ front_run kind (chars text.now)) }
     ensures rest { IfOk result (λ cut. chars cut.1.now ≡ after_run kind (chars text.now)) }
     ensures text { IfOk result (λ cut. IsUtf8 cut.1.now) }
-    ensures later { IfOk result (λ cut. length cut.1.now ≤ length text.now) }
+    ensures shorter { IfOk result (λ cut. length cut.1.now ≤ length text.now) }
 {
     let mut run = String::new(alloc);
     let mut rest = text;

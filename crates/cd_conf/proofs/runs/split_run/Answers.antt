@@ -11,5 +11,5 @@ loop-c-preserved c = record {
       c.in-Some.ensures.member c.in-Some.ensures.first c.in_ok-push.ensures.bytes c.loop-c.invariant.run;
     rest = after_goes_on c.args.kind c.in-Some.c (chars c.loop-c.rest.now) (chars c.in-Some.more.now) _
       c.in-Some.ensures.member c.in-Some.ensures.first c.loop-c.invariant.rest;
-    later = omega (arith, c.in-Some.ensures.shorter)
+    shorter = omega (arith, c.in-Some.ensures.shorter)
   }

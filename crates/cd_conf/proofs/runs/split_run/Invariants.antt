@@ -11,7 +11,7 @@ invariant-loop-c l = record {
     utf8 : shadow (Utf8 l.rest);
     run : string_bytes l.run ++ front_run l.kind (chars l.rest) ≡ front_run l.kind (chars l.fn.text);
     rest : after_run l.kind (chars l.rest) ≡ after_run l.kind (chars l.fn.text);
-    later : length l.rest ≤ length l.fn.text
+    shorter : length l.rest ≤ length l.fn.text
   }
 
 abbrev pub decreases-loop-c : goal.decreases-loop-c
