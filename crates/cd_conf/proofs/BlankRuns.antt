@@ -1,8 +1,9 @@
 -- Blanks one after the other.
-use Rattle.std.proofs.Common.{◌≡◌, ℕ, ◌+◌, ◌==◌, List, [], ◌∷◌, Bool, true, false, not, refl, ap, sym, ◌∙◌, Option, Some, None, MatchOption}
+use Rattle.std.proofs.Common.{◌≡◌, ◌<◌, ◌≤◌, ℕ, suc, ◌+◌, ◌==◌, ◌&&◌, length, arith, List, [], ◌∷◌, Bool, true, false, not, refl, ap, sym, ◌∙◌, Option, Some, None, MatchOption}
 use Rattle.std.specs.Option.{option_map}
 use Rattle.std.proofs.lemmas.Bool.{ne_eqb}
 use Rattle.cd_conf.specs.Position.{Position, at}
+use Rattle.cd_conf.proofs.Skips.{skipped}
 use Rattle.cd_conf.specs.Blanks.{is_blank, is_newline, after_blanks, after_newline, behind_blanks, behind_newline, line_after, line_behind_newline, next_line, skip_while}
 use Rattle.cd_conf.specs.Place.{position}
 use Rattle.cd_conf.specs.declared.place.Place.{Place}
@@ -80,3 +81,32 @@ pub text_ends : (p : Position) → p.rest ≡ [] → p ≡ next_line p
 unfolding skip_while
 text_ends p e =
     ap (at p.line) e ∙ sym (ap (λ (cs : List ℕ). line_behind_newline p.line (skip_while (λ c. not (is_newline c)) cs)) e)
+
+-- ---- what is left is shorter
+
+pub blanks_shrink : (line : ℕ) (cs : List ℕ) → length (after_blanks line cs).rest ≤ length cs
+unfolding after_blanks
+blanks_shrink line [] = omega arith
+blanks_shrink line (c ∷ []) = by (is_blank c) refl
+  where
+    by : (t : Bool) → is_blank c ≡ t → length (after_blanks line (c ∷ [])).rest ≤ length (c ∷ [])
+    by true e = rw e (omega arith)
+    by false e = rw e (omega arith)
+blanks_shrink line (c ∷ d ∷ cs) = by (is_blank c) (c == 92 && d == 10) refl refl (blanks_shrink line (d ∷ cs)) (blanks_shrink (line + 1) cs)
+  where
+    by : (t u : Bool) → is_blank c ≡ t → (c == 92 && d == 10) ≡ u → length (after_blanks line (d ∷ cs)).rest ≤ length (d ∷ cs) → length (after_blanks (line + 1) cs).rest ≤ length cs
+      → length (after_blanks line (c ∷ d ∷ cs)).rest ≤ length (c ∷ d ∷ cs)
+    by true u e f one two = rw e (omega (arith, one))
+    by false true e f one two = rw (e, f) (omega (arith, two))
+    by false false e f one two = rw (e, f) (omega arith)
+
+behind_shrinks : (line n : ℕ) (cs : List ℕ) → length cs ≤ suc n → length (line_behind_newline line cs).rest < suc n
+behind_shrinks line n [] h = omega arith
+behind_shrinks line n (c ∷ cs) h = let s = blanks_shrink (line + 1) cs in omega (arith, s)
+
+pub next_shrinks : (p : Position) (c : ℕ) (cs : List ℕ) → p.rest ≡ c ∷ cs → length (next_line p).rest < length p.rest
+next_shrinks p c cs e =
+    let s = skipped (λ c. not (is_newline c)) p.rest in
+    let l : length p.rest ≡ suc (length cs) = ap length e in
+    let b = behind_shrinks p.line (length cs) (skip_while (λ c. not (is_newline c)) p.rest) (omega (arith, s, l)) in
+    omega (arith, b, l)

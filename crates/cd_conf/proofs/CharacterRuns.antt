@@ -5,6 +5,7 @@ use Rattle.std.specs.Char.{encode_utf8}
 use Rattle.std.specs.List.{take_while, prefix_len}
 use Rattle.std.specs.Str.{encode_utf8_all}
 use Rattle.cd_conf.specs.Blanks.{skip_while}
+use Rattle.cd_conf.proofs.Skips.{skipped}
 use Rattle.cd_conf.specs.Characters.{may_stand, front_run, after_run}
 use Rattle.cd_conf.specs.declared.runs.Kind.{Kind}
 
@@ -44,15 +45,6 @@ after_all kind text e = ap (after_run kind) e ∙ after_end kind ∙ sym e
 
 pub after_other : (kind : Kind) (c : ℕ) (text cs : List ℕ) → may_stand kind c ≡ false → text ≡ c ∷ cs → after_run kind text ≡ text
 after_other kind c text cs h e = ap (after_run kind) e ∙ after_none kind c cs h ∙ sym e
-
-skipped : (p : ℕ → Bool) (cs : List ℕ) → length (skip_while p cs) ≤ length cs
-unfolding skip_while
-skipped p [] = omega arith
-skipped p (c ∷ cs) = by (p c) refl (skipped p cs)
-  where
-    by : (t : Bool) → p c ≡ t → length (skip_while p cs) ≤ length cs → length (skip_while p (c ∷ cs)) ≤ length (c ∷ cs)
-    by true e h = rw e (omega (arith, h))
-    by false e h = rw e (omega arith)
 
 -- a run that has a character ends behind it
 pub run_shorter : (kind : Kind) (c : ℕ) (text cs : List ℕ) → may_stand kind c ≡ true → text ≡ c ∷ cs → length (after_run kind text) < length text

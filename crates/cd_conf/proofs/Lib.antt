@@ -3,3 +3,7 @@ pub mod CharacterRuns
 pub mod QuoteRuns
 pub mod Magnitudes
 pub mod Repeating
+pub mod Nesting
+pub mod LineRuns
+pub mod Skips
+pub mod Texts

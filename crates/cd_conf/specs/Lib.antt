@@ -1,12 +1,16 @@
 pub mod Blanks
+pub mod Canonical
 pub mod Characters
 pub mod Digits
 pub mod Faults
 pub mod Numbers
+pub mod Parts
+pub mod Pile
 pub mod Place
 pub mod Position
 pub mod Quotes
 pub mod Repeated
 pub mod Seen
 pub mod Statements
+pub mod Tree
 pub mod Values

@@ -1,5 +1,5 @@
 -- The options, section starts and section ends of a text, and how sections nest.
-use Rattle.std.specs.Prelude.{ℕ, suc, ◌+◌, ◌==◌, List, [], ◌∷◌, length, take, count_by, Bool, nat_le, nat_lt, Result, Ok, Err, Option, Some, None, ok_or, if◌then◌else◌}
+use Rattle.std.specs.Prelude.{ℕ, suc, ◌+◌, ◌==◌, List, [], ◌∷◌, length, take, count_by, Bool, nat_le, nat_lt, Result, Ok, Err, Option, Some, None, if◌then◌else◌}
 use Rattle.std.specs.Str.{chars, is_utf8, str_eq_ignore_ascii_case}
 use Rattle.std.specs.Str.Lossy.{utf8_valid_len}
 use Rattle.cd_reading.specs.First.{◌>>=◌, unless}
@@ -93,11 +93,12 @@ open_behind (o ∷ os) line SectionEnd key =
 
 -- ---- lines
 
--- what a line says
+-- what a line says: an option, a section's start, or its end. No line says the last
 pub data Statement : Type 0 where
   OptionOf : (key : List ℕ) → (args : List Arg) → (line : ℕ) → Statement
   StartOf : (key : List ℕ) → (args : List Arg) → (line : ℕ) → Statement
   End : Statement
+  Stray : Statement
 
 abbrev pub statement_of : LineKind → List ℕ → List Arg → ℕ → Statement
 statement_of OptionLine key args line = OptionOf key args line
@@ -112,15 +113,23 @@ pub record Stand : Type 0 where
 abbrev pub stand : List Open → Position → Stand
 stand opens place = record { opens = opens; place = place }
 
+-- what stands behind a head that began in a line, from a position behind blanks on
+unfoldable pub statement_behind : List Open → ℕ → Head → Position → Result (Option (List Statement × Stand)) ConfFault
+statement_behind opens line head p =
+    open_behind opens line head.kind head.key >>= λ further.
+    values_behind head.kind p >>= λ values.
+    line_behind head.kind line values.0 values.1 >>= λ next.
+    Ok (Some (statement_of head.kind head.key values.0 line ∷ [], stand further next))
+
+abbrev pub statement_from : List Open → ℕ → Option (Head × List ℕ) → Result (Option (List Statement × Stand)) ConfFault
+statement_from opens line None = Err (fault_at BadKey line)
+statement_from opens line (Some head) =
+    statement_behind opens line head.0 (behind_blanks (at line head.1))
+
 -- the statement at a position: the first fault is that of its head, then that of its nesting, of
 -- its values, and of its end
 abbrev pub statement_at : List Open → Position → Result (Option (List Statement × Stand)) ConfFault
-statement_at opens p =
-    ok_or (head_at p.rest) (fault_at BadKey p.line) >>= λ head.
-    open_behind opens p.line head.0.kind head.0.key >>= λ further.
-    values_behind head.0.kind (behind_blanks (at p.line head.1)) >>= λ values.
-    line_behind head.0.kind p.line values.0 values.1 >>= λ next.
-    Ok (Some (statement_of head.0.kind head.0.key values.0 p.line ∷ [], stand further next))
+statement_at opens p = statement_from opens p.line (head_at p.rest)
 
 -- the line at a position, which may have no statement; none at the text's end
 abbrev pub line_from : List Open → ℕ → List ℕ → Result (Option (List Statement × Stand)) ConfFault

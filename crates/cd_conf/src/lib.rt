@@ -10,9 +10,12 @@ mod item;
 mod limits;
 mod lines;
 mod numbers;
+mod pile;
 mod place;
+mod print;
 mod quotes;
 mod runs;
+mod text;
 mod values;
 
 pub use fault::{ConfFault, ConfKind};

@@ -1,0 +1,28 @@
+-- The statements that a tree of items writes out.
+use Rattle.std.specs.Prelude.{ℕ, List, [], ◌∷◌, ◌++◌, Bool, if◌then◌else◌}
+use Rattle.std.specs.List.{flat_map}
+use Rattle.cd_conf.specs.Statements.{Statement, OptionOf, StartOf, End, Stray}
+use Rattle.cd_conf.specs.declared.item.Item.{Item}
+use Rattle.cd_conf.specs.declared.item.Item.TheOpen.{Item-F}
+use Rattle.cd_conf.specs.declared.item.Item.TheFolds.{fold-Item}
+
+abbrev pub joined : List (List Statement) → List Statement
+joined parts = flat_map (λ part. part) parts
+
+-- nothing stands in an option
+abbrev pub stray : List (List Statement) → List Statement
+stray [] = []
+stray (part ∷ parts) = Stray ∷ []
+
+-- an option; or a section's start, what stands in it, and its end
+abbrev pub item_step : Item-F (List Statement) → List Statement
+item_step i =
+    if i.section then StartOf i.key i.args i.line ∷ (joined i.children ++ End ∷ [])
+    else OptionOf i.key i.args i.line ∷ stray i.children
+
+abbrev pub statements_of : Item → List Statement
+statements_of = fold-Item (List Statement) item_step
+
+-- the statements that items write out, in order
+abbrev pub statements_of_items : List Item → List Statement
+statements_of_items items = flat_map statements_of items
