@@ -7,3 +7,4 @@ pub mod Nesting
 pub mod LineRuns
 pub mod Skips
 pub mod Texts
+pub mod Decimals

@@ -3,8 +3,8 @@ use Rattle.std.proofs.Common.{◌≡◌, ℕ, ◌≤◌, Bool, true, false, not,
 use Rattle.std.specs.List.{flat_map}
 use Rattle.std.proofs.lemmas.List.{take_all}
 use Rattle.std.proofs.lemmas.List.Folds.{flat_map-map}
-use Rattle.cd_conf.specs.declared.Item.{Item}
-use Rattle.cd_conf.specs.declared.Item.TheFolds.{fold_out-Item}
+use Rattle.cd_conf.specs.declared.item.Item.{Item}
+use Rattle.cd_conf.specs.declared.item.Item.TheFolds.{fold_out-Item}
 use Rattle.cd_conf.specs.Parts.{args_of, children_of, is_section, key_of}
 use Rattle.cd_conf.specs.Canonical.{deeper, end_text, text_step, item_text, option_text, start_text}
 

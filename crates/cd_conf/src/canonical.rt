@@ -47,12 +47,11 @@ fn push_decimals(text: &mut String, places: usize, n: u128) -> Result<(), AllocE
     requires { places ≤ DECIMALS_LIMIT }
     ensures { OnOk result (string_bytes text.new ≡ string_bytes text.old ++ decimals places n) }
 {
+    let mut left = places;
     let mut rest = n;
-    for place in (0..places).rev() {
-        if rest == 0 {
-            break;
-        }
-        let unit = 10u128.pow(place as u32);
+    while left > 0 && rest > 0 {
+        left -= 1;
+        let unit = 10u128.pow(left as u32);
         push_digit(text, rest / unit)?;
         rest %= unit;
     }
