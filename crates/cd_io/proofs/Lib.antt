@@ -3,3 +3,4 @@ pub mod Moves
 pub mod Rises
 pub mod Speaking
 pub mod Taken
+pub mod Taking

@@ -3,5 +3,7 @@ pub mod Datagrams
 pub mod Link
 pub mod MemLink
 pub mod MemPackets
+pub mod MemSource
 pub mod Packets
+pub mod Source
 pub mod Told

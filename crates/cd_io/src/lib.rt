@@ -12,12 +12,16 @@ mod adapters;
 mod memory;
 mod packets;
 mod saying;
+mod source;
 mod traits;
 
-pub use adapters::{RealClock, RealDice, RealWorld, Streams};
-pub use memory::{LinkPlan, MemClock, MemDice, MemLink, MemPackets, MemWorld, PacketsPlan};
+pub use adapters::{ReaderSource, RealClock, RealDice, RealWorld, Streams};
+pub use memory::{
+    LinkPlan, MemClock, MemDice, MemLink, MemPackets, MemSource, MemWorld, PacketsPlan, SourcePlan,
+};
 pub use packets::{DATAGRAM_LIMIT, Packets};
 pub use saying::say_all;
+pub use source::{ReadAllFault, Source, read_all};
 pub use traits::{Clock, Dice, Failed, Heard, Link, World};
 
 #[cfg(test)]

@@ -2,11 +2,13 @@
 mod chance;
 mod link;
 mod packets;
+mod source;
 mod time;
 mod world;
 
 pub use chance::MemDice;
 pub use link::{LinkPlan, MemLink};
 pub use packets::{MemPackets, PacketsPlan};
+pub use source::{MemSource, SourcePlan};
 pub use time::MemClock;
 pub use world::MemWorld;

@@ -1,8 +1,10 @@
 //! What no clause says: what goes over real readers and writers, and each call once.
 use crate::{
     Clock, DATAGRAM_LIMIT, Dice, Failed, Heard, Link, LinkPlan, MemClock, MemDice, MemLink,
-    MemPackets, MemWorld, Packets, PacketsPlan, RealWorld, Streams, World, say_all,
+    MemPackets, MemSource, MemWorld, Packets, PacketsPlan, ReadAllFault, ReaderSource, RealWorld,
+    Source, SourcePlan, Streams, World, read_all, say_all,
 };
+use std::alloc::{AllocError, Global};
 use std::io::{self, ErrorKind, Read, Write};
 use std::test::Fail;
 
@@ -181,5 +183,43 @@ fn packets_go_by_their_plan(rt: HostRuntime) -> Result<(), Fail> {
         assert_eq!(rt; source.next(room), answer);
         assert_eq!(rt; room.get(..3), Some(bytes));
     }
+    Ok(())
+}
+
+/// A source of the alphabet's first four letters, which gives two at a time and fails at the calls of `failing_reads`.
+fn letters(alloc: Global, failing_reads: &[u64]) -> Result<MemSource, AllocError> {
+    let mut plan = SourcePlan::new(alloc);
+    plan.failing_reads.extend_from_slice(failing_reads)?;
+    plan.piece_limit = 2;
+    Ok(MemSource::new(b"abcd".to_vec(alloc)?, plan))
+}
+
+#[test]
+fn sources_are_read_whole(rt: HostRuntime) -> Result<(), Fail> {
+    let alloc = rt.alloc();
+    let mut source = letters(alloc, &[1])?;
+    for (answer, bytes) in [
+        (Ok(2), b"ab."),
+        (Err(Failed), b"..."),
+        (Ok(2), b"cd."),
+        (Ok(0), b"..."),
+    ] {
+        let mut buf = *b"...";
+        assert_eq!(rt; source.read(&mut buf), answer);
+        assert_eq!(rt; &buf, bytes);
+    }
+    let whole = read_all(alloc, &mut letters(alloc, &[])?, 4);
+    assert_eq!(rt; whole.map(|v| v.as_slice() == b"abcd".as_slice()), Ok(true));
+    for (failing_reads, limit, fault) in [
+        ([9], 3, ReadAllFault::TooLong),
+        ([2], 4, ReadAllFault::Failed),
+    ] {
+        let whole = read_all(alloc, &mut letters(alloc, &failing_reads)?, limit);
+        assert_eq!(rt; whole.map(|v| v.len()), Err(fault));
+    }
+    let read = read_all(alloc, &mut ReaderSource::new(b"abc".as_slice()), 3);
+    assert_eq!(rt; read.map(|v| v.as_slice() == b"abc".as_slice()), Ok(true));
+    let mut broken = ReaderSource::new(Broken(ErrorKind::Interrupted));
+    assert_eq!(rt; broken.read(&mut [0]), Err(Failed));
     Ok(())
 }
