@@ -1,4 +1,5 @@
 pub mod Coming
+pub mod Files
 pub mod Moves
 pub mod Rises
 pub mod Speaking

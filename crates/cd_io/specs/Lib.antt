@@ -1,9 +1,12 @@
 pub mod Causes
 pub mod Datagrams
 pub mod Link
+pub mod MemFile
 pub mod MemLink
 pub mod MemPackets
 pub mod MemSource
+pub mod MemWorld
 pub mod Packets
 pub mod Source
 pub mod Told
+pub mod World

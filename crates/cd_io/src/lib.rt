@@ -14,15 +14,18 @@ mod packets;
 mod saying;
 mod source;
 mod traits;
+mod world;
 
 pub use adapters::{ReaderSource, RealClock, RealDice, RealWorld, Streams};
 pub use memory::{
-    LinkPlan, MemClock, MemDice, MemLink, MemPackets, MemSource, MemWorld, PacketsPlan, SourcePlan,
+    LinkPlan, MemClock, MemDice, MemFile, MemLink, MemPackets, MemSource, MemWorld, PacketsPlan,
+    SourcePlan,
 };
 pub use packets::{DATAGRAM_LIMIT, Packets};
 pub use saying::say_all;
 pub use source::{ReadAllFault, Source, read_all};
-pub use traits::{Clock, Dice, Failed, Heard, Link, World};
+pub use traits::{Clock, Dice, Failed, Heard, Link};
+pub use world::{OutFault, World};
 
 #[cfg(test)]
 mod tests;

@@ -1,8 +1,8 @@
 //! What no clause says: what goes over real readers and writers, and each call once.
 use crate::{
-    Clock, DATAGRAM_LIMIT, Dice, Failed, Heard, Link, LinkPlan, MemClock, MemDice, MemLink,
-    MemPackets, MemSource, MemWorld, Packets, PacketsPlan, ReadAllFault, ReaderSource, RealWorld,
-    Source, SourcePlan, Streams, World, read_all, say_all,
+    Clock, DATAGRAM_LIMIT, Dice, Failed, Heard, Link, LinkPlan, MemClock, MemDice, MemFile,
+    MemLink, MemPackets, MemSource, MemWorld, OutFault, Packets, PacketsPlan, ReadAllFault,
+    ReaderSource, RealWorld, Source, SourcePlan, Streams, World, read_all, say_all,
 };
 use std::alloc::{AllocError, Global};
 use std::io::{self, ErrorKind, Read, Write};
@@ -84,7 +84,7 @@ fn memory_goes_by_its_plan(rt: HostRuntime) -> Result<(), Fail> {
     assert_eq!(rt; say_all(&mut link, b"4"), Ok(()));
     assert_eq!(rt; link.output(), Some(b"1231234".as_slice()));
 
-    let mut world = MemWorld::new((u64::MAX - 6, 5), (u64::MAX - 6, 5));
+    let mut world = MemWorld::new(alloc, (u64::MAX - 6, 5), (u64::MAX - 6, 5));
     let mut clock = world.clock();
     let mut dice = world.dice();
     for (moment, word) in [
@@ -221,5 +221,63 @@ fn sources_are_read_whole(rt: HostRuntime) -> Result<(), Fail> {
     assert_eq!(rt; read.map(|v| v.as_slice() == b"abc".as_slice()), Ok(true));
     let mut broken = ReaderSource::new(Broken(ErrorKind::Interrupted));
     assert_eq!(rt; broken.read(&mut [0]), Err(Failed));
+    Ok(())
+}
+
+/// What the next opening of a path gives: its text where it is read whole, and what the opening or the reading was refused
+/// with otherwise.
+fn text_of<W: World>(
+    alloc: Global,
+    world: &mut W,
+    path: &str,
+) -> Result<Result<Vec<u8>, ReadAllFault>, OutFault> {
+    let mut source = world.file(path)?;
+    let text = read_all(alloc, &mut source, 10);
+    world.shut(source);
+    Ok(text)
+}
+
+/// Whether an opening gave this text.
+fn gave(given: &Result<Result<Vec<u8>, ReadAllFault>, OutFault>, text: &[u8]) -> bool {
+    match given {
+        Ok(Ok(bytes)) => bytes.as_slice() == text,
+        _ => false,
+    }
+}
+
+#[test]
+fn files_in_memory_give_their_texts(rt: HostRuntime) -> Result<(), Fail> {
+    let alloc = rt.alloc();
+    let mut texts = Vec::new(alloc);
+    texts.push(b"first".to_vec(alloc)?)?;
+    texts.push(b"second".to_vec(alloc)?)?;
+    let mut world = MemWorld::new(alloc, (0, 1), (0, 1));
+    world.add_file(MemFile::new(alloc, "a", texts, SourcePlan::new(alloc))?)?;
+    world.add_file(MemFile::of(alloc, "b", b"other")?)?;
+    world.add_file(MemFile::new(alloc, "c", Vec::new(alloc), SourcePlan::new(alloc))?)?;
+    let mut broken = SourcePlan::new(alloc);
+    broken.failing_reads.push(0)?;
+    let mut unread = Vec::new(alloc);
+    unread.push(b"never".to_vec(alloc)?)?;
+    world.add_file(MemFile::new(alloc, "d", unread, broken)?)?;
+    world.fail_file(1)?;
+    assert!(rt; gave(&text_of(alloc, &mut world, "a"), b"first"));
+    assert!(rt; matches!(text_of(alloc, &mut world, "a"), Err(OutFault::Failed)));
+    for (path, text) in [
+        ("b", b"other".as_slice()),
+        ("a", b"second"),
+        ("a", b"second"),
+    ] {
+        assert!(rt; gave(&text_of(alloc, &mut world, path), text));
+    }
+    for path in ["c", "e"] {
+        assert!(rt; matches!(text_of(alloc, &mut world, path), Err(OutFault::Failed)));
+    }
+    assert!(rt;
+        matches!(
+            text_of(alloc, &mut world, "d"),
+            Ok(Err(ReadAllFault::Failed))
+        )
+    );
     Ok(())
 }

@@ -86,30 +86,3 @@ pub trait Dice: Send + Drop {
         ensures equal { dice_pair result ≡ dice_pair self.old }
         ensures same { dice_pair self.new ≡ dice_pair self.old };
 }
-
-/// What hands out the objects of the outside.
-pub trait World: Drop {
-    /// The clocks that it makes.
-    type Clk: Clock;
-
-    /// The dice that it makes.
-    type Die: Dice;
-
-    /// The pair with which each clock that it makes begins, where it tells it.
-    ghost world_clock_pair: { Self → Option (ℕ × ℕ) };
-
-    /// The pair with which all dice that it makes begin, where it tells it.
-    ghost world_dice_pair: { Self → Option (ℕ × ℕ) };
-
-    /// Makes a clock.
-    fn clock(&mut self) -> Self::Clk
-        ensures begins { Self.Clk.clock_pair result ≡ world_clock_pair self.old }
-        ensures clock_pair { world_clock_pair self.new ≡ world_clock_pair self.old }
-        ensures dice_pair { world_dice_pair self.new ≡ world_dice_pair self.old };
-
-    /// Makes dice.
-    fn dice(&mut self) -> Self::Die
-        ensures begins { Self.Die.dice_pair result ≡ world_dice_pair self.old }
-        ensures clock_pair { world_clock_pair self.new ≡ world_clock_pair self.old }
-        ensures dice_pair { world_dice_pair self.new ≡ world_dice_pair self.old };
-}

@@ -21,6 +21,13 @@ impl<R: Read + Drop> ReaderSource<R> {
     {
         ReaderSource { reader, faults: 0 }
     }
+
+    /// How many calls have failed.
+    pub(crate) fn faults(&self) -> u64
+        ensures { result ≡ (⟦<ReaderSource<R> as Source>⟧.source_tells self.now).faults }
+    {
+        self.faults
+    }
 }
 
 impl<R: Read + Drop> Source for ReaderSource<R> {

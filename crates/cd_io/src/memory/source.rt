@@ -1,9 +1,9 @@
 //! A source in memory.
-ghost use Rattle.std.specs.Prelude.{◌≡◌, ◌≤◌, ◌-◌, ◌^◌, [], ℕ, length, is_err};
+ghost use Rattle.std.specs.Prelude.{◌≡◌, ◌≤◌, ◌-◌, ◌^◌, [], ℕ, length, IfOk, is_err};
 ghost use Rattle.cd_io.specs.Source.{Reads, read_count};
 
 use crate::{Failed, Source};
-use std::alloc::Global;
+use std::alloc::{AllocError, Global};
 
 /// Which calls on a source in memory fail, and how much one call gives. The calls are numbered from 0.
 #[derive(Drop)]
@@ -24,6 +24,17 @@ impl SourcePlan {
             failing_reads: Vec::new(alloc),
             piece_limit: usize::MAX,
         }
+    }
+
+    /// The same plan again.
+    pub(crate) fn copy(&self, alloc: Global) -> Result<Self, AllocError>
+        ensures failing_reads { IfOk result (λ plan. plan.failing_reads.items ≡ self.now.failing_reads.items) }
+        ensures piece_limit { IfOk result (λ plan. plan.piece_limit ≡ self.now.piece_limit) }
+    {
+        Ok(SourcePlan {
+            failing_reads: self.failing_reads.to_vec(alloc)?,
+            piece_limit: self.piece_limit,
+        })
     }
 }
 
@@ -54,6 +65,13 @@ impl MemSource {
             reads: 0,
             faults: 0,
         }
+    }
+
+    /// How many calls have failed.
+    pub(crate) fn faults(&self) -> u64
+        ensures { result ≡ (⟦<MemSource as Source>⟧.source_tells self.now).faults }
+    {
+        self.faults
     }
 }
 
