@@ -1,5 +1,7 @@
 pub mod Causes
 pub mod Datagrams
+pub mod Gathered
+pub mod Gathering
 pub mod Link
 pub mod MemFile
 pub mod MemLink

@@ -9,6 +9,7 @@
 #![tactic(auto)]
 
 mod adapters;
+mod gathering;
 mod memory;
 mod packets;
 mod saying;
@@ -17,6 +18,7 @@ mod traits;
 mod world;
 
 pub use adapters::{ReaderSource, RealClock, RealDice, RealWorld, Streams};
+pub use gathering::{GATHER_LIMIT, Gathering};
 pub use memory::{
     LinkPlan, MemClock, MemDice, MemFile, MemLink, MemPackets, MemSource, MemWorld, PacketsPlan,
     SourcePlan,

@@ -5,7 +5,7 @@ ghost use Rattle.cd_io.specs.Link.{Spoke, SaidInPart};
 
 use crate::{Failed, Link};
 
-/// Says a whole text to the peer: it is offered in one piece, and again from the first byte that wasn't taken.
+/// Says a whole text to the peer, as `Link::say_whole` does.
 pub fn say_all<L: Link>(link: &mut L, text: &[u8]) -> Result<(), Failed>
     ensures ok { OnOk result (Spoke [] text.now (L.link_tells link.old) (L.link_tells link.new)) }
     ensures err { OnErr result (SaidInPart text.now (L.link_tells link.old) (L.link_tells link.new)) }
@@ -13,10 +13,5 @@ pub fn say_all<L: Link>(link: &mut L, text: &[u8]) -> Result<(), Failed>
     ensures faults { Counts (is_err result)
         (L.link_tells link.old).faults (L.link_tells link.new).faults }
 {
-    let mut rest = text;
-    while !rest.is_empty() {
-        let count = link.say(rest)?;
-        rest = rest.split_at(count).1;
-    }
-    Ok(())
+    link.say_whole(text).1
 }

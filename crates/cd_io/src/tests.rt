@@ -1,8 +1,8 @@
 //! What no clause says: what goes over real readers and writers, and each call once.
 use crate::{
-    Clock, DATAGRAM_LIMIT, Dice, Failed, Heard, Link, LinkPlan, MemClock, MemDice, MemFile,
-    MemLink, MemPackets, MemSource, MemWorld, OutFault, Packets, PacketsPlan, ReadAllFault,
-    ReaderSource, RealWorld, Source, SourcePlan, Streams, World, read_all, say_all,
+    Clock, DATAGRAM_LIMIT, Dice, Failed, GATHER_LIMIT, Gathering, Heard, Link, LinkPlan, MemClock,
+    MemDice, MemFile, MemLink, MemPackets, MemSource, MemWorld, OutFault, Packets, PacketsPlan,
+    ReadAllFault, ReaderSource, RealWorld, Source, SourcePlan, Streams, World, read_all, say_all,
 };
 use std::alloc::{AllocError, Global};
 use std::io::{self, ErrorKind, Read, Write};
@@ -103,25 +103,121 @@ fn memory_goes_by_its_plan(rt: HostRuntime) -> Result<(), Fail> {
     Ok(())
 }
 
+/// A reader and a writer that fail some times before they go on, as a stream that would block.
+#[derive(Drop)]
+struct Late<T> {
+    errors: u8,
+    kind: ErrorKind,
+    stream: T,
+}
+
+impl<T: Drop> Late<T> {
+    /// Whether this call is to fail.
+    fn fails(&mut self) -> bool {
+        let fails = self.errors > 0;
+        self.errors = self.errors.saturating_sub(1);
+        fails
+    }
+}
+
+impl<T: Read + Drop> Read for Late<T> {
+    fn read(&mut self, buf: &mut [u8]) -> io::Result<usize> {
+        if self.fails() {
+            return Err(io::Error::from(self.kind));
+        }
+        self.stream.read(buf)
+    }
+}
+
+impl<T: Write + Drop> Write for Late<T> {
+    fn write(&mut self, buf: &[u8]) -> io::Result<usize> {
+        if self.fails() {
+            return Err(io::Error::from(self.kind));
+        }
+        self.stream.write(buf)
+    }
+
+    fn flush(&mut self) -> io::Result<()> {
+        self.stream.flush()
+    }
+}
+
 #[test]
 fn streams_are_a_link(rt: HostRuntime) {
-    let mut link = Streams::new(b"abc".as_slice(), Vec::new(rt.alloc()));
+    let mut link = Streams::new(rt, b"abc".as_slice(), Vec::new(rt.alloc()));
     let mut buf = *b"....";
     assert!(rt; matches!(link.hear(&mut buf), Ok(Heard::Got(3))));
     assert!(rt; matches!(buf, [b'a', b'b', b'c', b'.']));
     assert!(rt; matches!(link.hear(&mut buf), Ok(Heard::End)));
     assert!(rt; matches!(link.say(b"123"), Ok(3)));
-    for kind in [
-        ErrorKind::Interrupted,
-        ErrorKind::WouldBlock,
-        ErrorKind::TimedOut,
-    ] {
-        let mut link = Streams::new(Broken(kind), Broken(kind));
-        assert!(rt; matches!(link.hear(&mut buf), Ok(Heard::Quiet)));
-        assert!(rt; link.say(b"").is_err());
-    }
-    let mut link = Streams::new(Broken(ErrorKind::BrokenPipe), Vec::new(rt.alloc()));
+    let mut link = Streams::new(rt, Broken(ErrorKind::TimedOut), Broken(ErrorKind::TimedOut));
+    assert!(rt; matches!(link.hear(&mut buf), Ok(Heard::Quiet)));
+    assert!(rt; link.say(b"").is_err());
+    let mut link = Streams::new(rt, Broken(ErrorKind::BrokenPipe), Vec::new(rt.alloc()));
     assert!(rt; link.hear(&mut buf).is_err());
+}
+
+#[test]
+fn streams_wait(rt: HostRuntime) -> Result<(), Fail> {
+    for kind in [ErrorKind::Interrupted, ErrorKind::WouldBlock] {
+        let mut taken = Vec::new(rt.alloc());
+        let reader = Late {
+            errors: 2,
+            kind,
+            stream: b"abc".as_slice(),
+        };
+        let writer = Late {
+            errors: 2,
+            kind,
+            stream: ByteByByte {
+                taken: &mut taken,
+                pending: false,
+            },
+        };
+        let mut link = Streams::new(rt, reader, writer);
+        let mut buf = *b"....";
+        assert!(rt; matches!(link.hear(&mut buf), Ok(Heard::Got(3))));
+        assert!(rt; matches!(link.hear(&mut buf), Ok(Heard::End)));
+        assert_eq!(rt; say_all(&mut link, b"12"), Ok(()));
+        assert_eq!(rt; taken.as_slice(), b"12".as_slice());
+    }
+    Ok(())
+}
+
+#[test]
+fn replies_are_gathered(rt: HostRuntime) -> Result<(), Fail> {
+    let alloc = rt.alloc();
+    // The first call of `say` on the inner link fails, which shows when it is made.
+    let mut plan = LinkPlan::new(alloc);
+    plan.failing_says.push(0)?;
+    let mut link = Gathering::new(alloc, MemLink::new(alloc, b"x".to_vec(alloc)?, plan));
+    let mut buf = *b".";
+    assert_eq!(rt; link.say(b"1"), Ok(1));
+    assert_eq!(rt; link.say(b"2"), Ok(1));
+    assert_eq!(rt; link.hear(&mut buf), Err(Failed));
+    assert_eq!(rt; link.hear(&mut buf), Ok(Heard::Got(1)));
+    assert_eq!(rt; link.hear(&mut buf), Ok(Heard::End));
+    let (mut link, finished) = link.finish();
+    assert_eq!(rt; finished, Ok(()));
+    assert_eq!(rt; link.output(), Some(b"12".as_slice()));
+    assert_eq!(rt; link.say(b"3"), Ok(1));
+
+    // What is said after the end isn't kept, and neither is what has no room.
+    let mut plan = LinkPlan::new(alloc);
+    plan.failing_says.extend_from_slice(&[0, 2])?;
+    let mut link = Gathering::new(alloc, MemLink::new(alloc, Vec::new(alloc), plan));
+    assert_eq!(rt;
+        link.say(&vec![in alloc; b'1'; GATHER_LIMIT + 1]?),
+        Err(Failed)
+    );
+    assert_eq!(rt; link.say(b"2"), Ok(1));
+    assert_eq!(rt; link.hear(&mut buf), Ok(Heard::End));
+    assert_eq!(rt; link.say(b"3"), Err(Failed));
+    assert_eq!(rt; link.say(b"4"), Ok(1));
+    let (link, finished) = link.finish();
+    assert_eq!(rt; finished, Ok(()));
+    assert_eq!(rt; link.output(), Some(b"24".as_slice()));
+    Ok(())
 }
 
 #[test]
@@ -131,7 +227,7 @@ fn short_writes_lose_nothing(rt: HostRuntime) -> Result<(), Fail> {
         taken: &mut taken,
         pending: false,
     };
-    let mut link = Streams::new(b"".as_slice(), writer);
+    let mut link = Streams::new(rt, b"".as_slice(), writer);
     assert_eq!(rt; link.say(b"abc"), Ok(1));
     assert_eq!(rt; say_all(&mut link, b"0 Success\n"), Ok(()));
     assert_eq!(rt; taken.as_slice(), b"a0 Success\n".as_slice());
@@ -219,7 +315,7 @@ fn sources_are_read_whole(rt: HostRuntime) -> Result<(), Fail> {
     }
     let read = read_all(alloc, &mut ReaderSource::new(b"abc".as_slice()), 3);
     assert_eq!(rt; read.map(|v| v.as_slice() == b"abc".as_slice()), Ok(true));
-    let mut broken = ReaderSource::new(Broken(ErrorKind::Interrupted));
+    let mut broken = ReaderSource::new(Broken(ErrorKind::BrokenPipe));
     assert_eq!(rt; broken.read(&mut [0]), Err(Failed));
     Ok(())
 }

@@ -4,9 +4,6 @@ ghost use Rattle.std.specs.Prelude.{◌≡◌, ◌≤◌, IfOk, None, length};
 use crate::{Failed, Source};
 use std::io::{self, ErrorKind, Read};
 
-/// How often an interrupted read is tried again.
-const TRIES: u32 = 1024;
-
 /// A reader as a source, as an open file. An interrupted read is tried again; any other error is a fault.
 #[derive(Drop)]
 pub struct ReaderSource<R> {
@@ -45,7 +42,7 @@ impl<R: Read + Drop> Source for ReaderSource<R> {
 fn read_some<R: Read>(reader: &mut R, buf: &mut [u8]) -> io::Result<usize>
     ensures { IfOk result (λ n. n ≤ length buf.new) }
 {
-    for _ in 0..TRIES {
+    for _ in 0..u64::MAX {
         match reader.read(buf) {
             Err(error) if error.kind() == ErrorKind::Interrupted => {}
             answer => return answer,
