@@ -7,7 +7,7 @@ use Rattle.std.proofs.lemmas.Bool.{cond-true, ltb-true}
 use Rattle.std.proofs.lemmas.Bool.Decides.{nat_tests}
 use Rattle.std.proofs.lemmas.List.{drop-map, drop-drop, length-map}
 use Rattle.std.proofs.lemmas.Option.{cond_some}
-use Rattle.cd_io.specs.World.{FileTells, opening, later, later_texts, after_opening}
+use Rattle.cd_io.specs.World.{after_opening, FileTells, later, later_texts, opening}
 
 -- the place that was found is the first that passes, and is within the list
 pub place_found : {A : Type 0} (p : A → Bool) (xs : List A) (i : ℕ) → position p xs ≡ Some i

@@ -1,12 +1,11 @@
 -- What was heard and said over calls on a link, one after another.
-use Rattle.std.proofs.Common.{◌≡◌, ℕ, ◌+◌, Bool, true, false, List, [], ◌++◌, length, take, drop, Option, None, Some, IfSome, Result, Ok, Err, is_err, OnErr, refl, sym, ap, ◌∙◌, subst, append-nil, arith}
+use Rattle.std.proofs.Common.{◌≡◌, ℕ, ◌+◌, true, false, List, [], ◌++◌, take, drop, Option, None, Some, IfSome, Result, Ok, Err, is_err, OnErr, refl, sym, ap, ◌∙◌, subst, append-nil, arith}
 use Rattle.std.proofs.Math.Seq.{take-add}
 use Rattle.std.proofs.lemmas.List.{take-append-drop}
 use Rattle.cd_io.specs.declared.traits.Failed.{Failed}
-use Rattle.cd_io.specs.Causes.{Rose}
 use Rattle.cd_io.specs.Told.{Loses}
 use Rattle.cd_io.specs.Link.{HasEnded, LinkTells, SaidInPart, Says, SaysWhole, Spoke}
-use Rattle.cd_io.proofs.Moves.{grows_none, loses_none, grows_more, loses_more}
+use Rattle.cd_io.proofs.Moves.{grows_more, grows_none, loses_more, loses_none}
 use Rattle.cd_io.proofs.Rises.{later_rose}
 
 -- no call

@@ -1,5 +1,5 @@
 -- What a link tells that keeps what is said, and what saying all of that does.
-use Rattle.std.specs.Prelude.{◌≡◌, ℕ, Bool, true, false, List, [], ◌++◌}
+use Rattle.std.specs.Prelude.{◌≡◌, ℕ, Bool, false, List, [], ◌++◌}
 use Rattle.std.specs.Option.{option_map}
 use Rattle.cd_io.specs.Causes.{Counts}
 use Rattle.cd_io.specs.Link.{LinkTells}

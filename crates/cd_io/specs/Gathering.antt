@@ -3,7 +3,7 @@ use Rattle.std.specs.Prelude.{ℕ, ◌-◌, Bool, true, false, not, ◌&&◌, na
 use Rattle.cd_io.specs.declared.gathering.Gathering.{Gathering}
 use Rattle.cd_io.specs.declared.traits.Failed.{Failed}
 use Rattle.cd_io.specs.declared.traits.Heard.{Heard}
-use Rattle.cd_io.specs.declared.traits.Heard.TheVariants.{Got, End, Quiet}
+use Rattle.cd_io.specs.declared.traits.Heard.TheVariants.{End, Got, Quiet}
 
 -- what was said to it and not yet to the inner link
 abbrev pub kept_of : {L : Type 0} → Gathering L → List ℕ

@@ -1,7 +1,7 @@
 -- What a link tells, and what calls on it do to that.
 use Rattle.std.specs.Prelude.{◌≡◌, ◌≤◌, ℕ, Bool, true, false, List, [], ◌++◌, take, Option, None, IfSome, Result, Ok, Err, is_err}
 use Rattle.cd_io.specs.declared.traits.Heard.{Heard}
-use Rattle.cd_io.specs.declared.traits.Heard.TheVariants.{Got, End, Quiet}
+use Rattle.cd_io.specs.declared.traits.Heard.TheVariants.{End, Got, Quiet}
 use Rattle.cd_io.specs.declared.traits.Failed.{Failed}
 use Rattle.cd_io.specs.Causes.{Counts, Rose}
 use Rattle.cd_io.specs.Told.{Grows, Loses}

@@ -1,7 +1,7 @@
 -- What a file in memory shows.
 use Rattle.std.specs.Prelude.{List, map, drop, string_bytes, Option, Some, None, Result, Ok, Err, ℕ}
 use Rattle.cd_io.specs.declared.memory.file.MemFile.{MemFile}
-use Rattle.cd_io.specs.World.{FileTells, after_opening}
+use Rattle.cd_io.specs.World.{after_opening, FileTells}
 
 -- its path, and the texts of its next openings
 abbrev pub shown : MemFile → FileTells

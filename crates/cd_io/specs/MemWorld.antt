@@ -3,7 +3,7 @@ use Rattle.std.specs.Prelude.{ℕ, Bool, ◌||◌, List, map, Some, is_none}
 use Rattle.cd_io.specs.declared.memory.world.MemWorld.{MemWorld}
 use Rattle.cd_io.specs.MemFile.{shown}
 use Rattle.cd_io.specs.MemLink.{is_among}
-use Rattle.cd_io.specs.World.{FileTells, WorldTells, opening}
+use Rattle.cd_io.specs.World.{FileTells, opening, WorldTells}
 
 -- what a world in memory tells of its files
 abbrev pub files_of : MemWorld → List FileTells

@@ -8,10 +8,6 @@ Moves step old None = Unit {0}
 Moves step None (Some new) = ⊥
 Moves step (Some old) (Some new) = step old new
 
--- what is told stays as it was
-abbrev pub Stays : {A : Type 0} → Option A → Option A → Type 0
-Stays old new = Moves (λ x y. y ≡ x) old new
-
 -- these bytes were put behind those told
 abbrev pub Grows : List ℕ → Option (List ℕ) → Option (List ℕ) → Type 0
 Grows bytes old new = Moves (λ x y. y ≡ x ++ bytes) old new

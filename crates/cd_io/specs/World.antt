@@ -13,8 +13,8 @@ pub record FileTells : Type 0 where
   pub path : List ℕ
   pub texts : List (List ℕ)
 
--- What a world tells: its files, where it tells them; how many calls failed, and how many sources that had failed it took
--- back.
+-- What a world tells: its files, where it tells them; how many calls failed, and how many sources that had failed it
+-- took back.
 pub record WorldTells : Type 0 where
   pub files : Option (List FileTells)
   pub faults : ℕ
@@ -50,7 +50,8 @@ is_failed (Err fault.Memory) = false
 
 -- What a call of `file` does that had this answer: the source has the text of the path's next opening left, where the
 -- world tells it, and no fault.
-pub record Opens {S : Type 0} (tells : S → SourceTells) (path : List ℕ) (answer : Result S OutFault) (before after : WorldTells) : Type 0 where
+pub record Opens {S : Type 0} (tells : S → SourceTells) (path : List ℕ) (answer : Result S OutFault)
+    (before after : WorldTells) : Type 0 where
   pub found : IfOk answer (λ source. option_map Some (tells source).left ≡ option_map (opening path) before.files)
   pub begins : IfOk answer (λ source. (tells source).faults ≡ 0)
   pub files : after.files ≡ option_map (files_after answer path) before.files

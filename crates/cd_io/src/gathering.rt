@@ -1,7 +1,8 @@
 //! Replies gathered, so that many go out in one piece.
 ghost use Rattle.std.specs.Prelude.{◌≡◌, ◌≤◌, ◌<◌, ◌||◌, ◌++◌, true, ℕ, [], drop, length, vec_capacity, Ok, IfOk, OnOk, is_err};
+ghost use Rattle.cd_io.specs.declared.gathering.TheConstants.{GATHER_LIMIT};
 ghost use Rattle.cd_io.specs.Gathered.{Finishes, Flushes, gathered};
-ghost use Rattle.cd_io.specs.Link.{Hears, Says, heard_count};
+ghost use Rattle.cd_io.specs.Link.{heard_count, Hears, Says};
 
 use crate::{Failed, Heard, Link};
 use std::alloc::Global;
@@ -9,8 +10,8 @@ use std::alloc::Global;
 /// How many bytes a gathering link keeps at most.
 pub const GATHER_LIMIT: usize = 65_536;
 
-/// A link over another that keeps what is said, and says it before it hears again, or where its room is full. From the first
-/// end or quiet on it keeps nothing. Where memory for its room is lacking, it keeps nothing at all.
+/// A link over another that keeps what is said, and says it before it hears again, or where its room is full. From the
+/// first end or quiet on it keeps nothing. Where memory for its room is lacking, it keeps nothing at all.
 ///
 /// What it says late may fail late: a call of `hear` fails where it can't say what is kept.
 #[derive(Drop)]
@@ -22,7 +23,7 @@ pub struct Gathering<L> {
     through: bool,
     ghost within: { sent ≤ length kept.items },
     ghost few: { length kept.items ≤ room },
-    ghost small: { room ≤ 65536 },
+    ghost small: { room ≤ GATHER_LIMIT },
     ghost reserved: { room ≤ vec_capacity kept },
 }
 
@@ -77,7 +78,8 @@ impl<L: Link> Gathering<L> {
 
     /// A gathering link over another, with nothing kept.
     pub fn new(alloc: Global, link: L) -> Self
-        ensures tells { ⟦<Gathering<L> as Link>⟧.link_tells result ≡ gathered [] (L.link_tells link) }
+        ensures tells { ⟦<Gathering<L> as Link>⟧.link_tells result
+            ≡ gathered [] (L.link_tells link) }
         ensures kept { kept_of result ≡ [] }
     {
         let (kept, room) = match Vec::with_capacity(alloc, GATHER_LIMIT) {
@@ -151,8 +153,9 @@ impl<L: Link> Link for Gathering<L> {
             (gathered (kept_of self.old) (L.link_tells self.old.link))
             (gathered (kept_of self.new) (L.link_tells self.new.link)) }
         ensures kept { OnOk result (is_through self.old ≡ true → kept_of self.new ≡ []) }
-        ensures gathers { has_room self.old text.now ≡ true → inner_of self.new ≡ inner_of self.old }
-        ensures few { length (kept_of self.new) ≤ 65536 }
+        ensures gathers { has_room self.old text.now ≡ true
+            → inner_of self.new ≡ inner_of self.old }
+        ensures few { length (kept_of self.new) ≤ GATHER_LIMIT }
         ensures through { is_through self.new ≡ is_through self.old }
     {
         if self.fits(text) {

@@ -1,7 +1,7 @@
 //! Texts that are read from their beginning to their end.
 ghost use Rattle.std.specs.Prelude.{◌≡◌, ◌≤◌, ◌<◌, ℕ, List, length, Err, IfOk, IfSome};
 ghost use Rattle.cd_io.specs.Causes.{Counts};
-ghost use Rattle.cd_io.specs.Source.{IsWhole, Reads, SourceTells, is_failed, read_count};
+ghost use Rattle.cd_io.specs.Source.{is_failed, IsWhole, read_count, Reads, SourceTells};
 ghost use Rattle.cd_io.specs.Told.{Takes};
 
 use crate::Failed;
@@ -15,8 +15,8 @@ pub trait Source: Drop {
     /// What it tells: the bytes that are left, where it tells them, and the count of faults.
     ghost source_tells: { Self → SourceTells };
 
-    /// Takes the next bytes into the front of the buffer, and answers how many: none, for a buffer that isn't empty, is the
-    /// end. What the buffer has behind them is left open.
+    /// Takes the next bytes into the front of the buffer, and answers how many: none, for a buffer that isn't empty,
+    /// is the end. What the buffer has behind them is left open.
     fn read(&mut self, buf: &mut [u8]) -> Result<usize, Failed>
         ensures bound { read_count result ≤ length buf.new }
         ensures reads { Reads result buf.new (source_tells self.old) (source_tells self.new) };

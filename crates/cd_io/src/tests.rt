@@ -5,7 +5,10 @@ use crate::{
     ReadAllFault, ReaderSource, RealWorld, Source, SourcePlan, Streams, World, read_all, say_all,
 };
 use std::alloc::{AllocError, Global};
+use std::fs::{self, Permissions};
 use std::io::{self, ErrorKind, Read, Write};
+use std::os::unix::fs::PermissionsExt;
+use std::process;
 use std::test::Fail;
 
 /// A reader and a writer that fail each time.
@@ -320,8 +323,8 @@ fn sources_are_read_whole(rt: HostRuntime) -> Result<(), Fail> {
     Ok(())
 }
 
-/// What the next opening of a path gives: its text where it is read whole, and what the opening or the reading was refused
-/// with otherwise.
+/// What the next opening of a path gives: its text where it is read whole, and what the opening or the reading was
+/// refused with otherwise.
 fn text_of<W: World>(
     alloc: Global,
     world: &mut W,
@@ -375,5 +378,30 @@ fn files_in_memory_give_their_texts(rt: HostRuntime) -> Result<(), Fail> {
             Ok(Err(ReadAllFault::Failed))
         )
     );
+    Ok(())
+}
+
+#[test]
+fn files_are_read_from_the_disk(rt: HostRuntime) -> Result<(), Fail> {
+    let alloc = rt.alloc();
+    let number = process::id(rt.process());
+    let folder = format!(in alloc; "/tmp/cd_io-{number}")?;
+    let path = format!(in alloc; "{folder}/text")?;
+    let missing = format!(in alloc; "{folder}/none")?;
+    let mut world = RealWorld::new(rt);
+    fs::create_dir(&rt, folder.as_str())?;
+    fs::write(&rt, path.as_str(), "some text")?;
+    let given = text_of(alloc, &mut world, path.as_str());
+    let none = text_of(alloc, &mut world, missing.as_str());
+    let of_folder = text_of(alloc, &mut world, folder.as_str());
+    fs::set_permissions(&rt, path.as_str(), Permissions::from_mode(0))?;
+    let locked = text_of(alloc, &mut world, path.as_str());
+    fs::remove_file(&rt, path.as_str())?;
+    fs::remove_dir(&rt, folder.as_str())?;
+    assert!(rt; gave(&given, b"some text"));
+    assert!(rt; matches!(none, Err(OutFault::Failed)));
+    assert!(rt; matches!(of_folder, Ok(Err(ReadAllFault::Failed))));
+    // The superuser may read each file.
+    assert!(rt; matches!(locked, Err(OutFault::Failed)) || gave(&locked, b"some text"));
     Ok(())
 }

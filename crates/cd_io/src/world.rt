@@ -47,14 +47,16 @@ pub trait World: Drop {
 
     /// Opens the file of a path for reading.
     fn file(&mut self, path: &str) -> Result<Self::Src, OutFault>
-        ensures opens { Opens Self.Src.source_tells path.now result (world_tells self.old) (world_tells self.new) }
+        ensures opens { Opens Self.Src.source_tells path.now result
+            (world_tells self.old) (world_tells self.new) }
         ensures clock_pair { world_clock_pair self.new ≡ world_clock_pair self.old }
         ensures dice_pair { world_dice_pair self.new ≡ world_dice_pair self.old };
 
-    /// Takes back what a file was read from, and closes the file. Where a call on it failed, the count of reading faults
-    /// rises.
+    /// Takes back what a file was read from, and closes the file. Where a call on it failed, the count of reading
+    /// faults rises.
     fn shut(&mut self, source: Self::Src)
-        ensures shuts { Shuts (Self.Src.source_tells source) (world_tells self.old) (world_tells self.new) }
+        ensures shuts { Shuts (Self.Src.source_tells source)
+            (world_tells self.old) (world_tells self.new) }
         ensures clock_pair { world_clock_pair self.new ≡ world_clock_pair self.old }
         ensures dice_pair { world_dice_pair self.new ≡ world_dice_pair self.old };
 

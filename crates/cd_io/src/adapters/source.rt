@@ -14,7 +14,8 @@ pub struct ReaderSource<R> {
 impl<R: Read + Drop> ReaderSource<R> {
     /// The source that reads from `reader`.
     pub fn new(reader: R) -> Self
-        ensures { ⟦<ReaderSource<R> as Source>⟧.source_tells result ≡ record { left = None; faults = 0 } }
+        ensures { ⟦<ReaderSource<R> as Source>⟧.source_tells result
+            ≡ record { left = None; faults = 0 } }
     {
         ReaderSource { reader, faults: 0 }
     }

@@ -13,8 +13,8 @@ const PAUSE: u64 = 1;
 
 /// A reader and a writer as a link, as standard input and standard output. What is said is flushed at once.
 ///
-/// A call that was interrupted is tried again, and so is one that would block, after a pause of a millisecond. A read that
-/// timed out is quiet; any other error is a fault.
+/// A call that was interrupted is tried again, and so is one that would block, after a pause of a millisecond. A read
+/// that timed out is quiet; any other error is a fault.
 #[derive(Drop)]
 pub struct Streams<C, R, W> {
     clock: C,

@@ -7,8 +7,8 @@ ghost use Rattle.std.specs.Str.{bytes_eq};
 use crate::{MemSource, Source, SourcePlan};
 use std::alloc::{AllocError, Global};
 
-/// A file in memory: its path, and the texts of its openings in order, of which the last stands for all later ones. Each
-/// opening is read by the file's plan.
+/// A file in memory: its path, and the texts of its openings in order, of which the last stands for all later ones.
+/// Each opening is read by the file's plan.
 #[derive(Drop)]
 pub struct MemFile {
     path: String,
@@ -43,7 +43,8 @@ impl MemFile {
 
     /// The file of a path with one text.
     pub fn of(alloc: Global, path: &str, text: &[u8]) -> Result<Self, AllocError>
-        ensures { IfOk result (λ file. shown file ≡ record { path = path.now; texts = text.now ∷ [] }) }
+        ensures { IfOk result (λ file.
+            shown file ≡ record { path = path.now; texts = text.now ∷ [] }) }
     {
         let mut texts = Vec::new(alloc);
         texts.push(text.to_vec(alloc)?)?;

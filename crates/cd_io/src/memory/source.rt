@@ -1,6 +1,6 @@
 //! A source in memory.
 ghost use Rattle.std.specs.Prelude.{◌≡◌, ◌≤◌, ◌-◌, ◌^◌, [], ℕ, length, IfOk, is_err};
-ghost use Rattle.cd_io.specs.Source.{Reads, read_count};
+ghost use Rattle.cd_io.specs.Source.{read_count, Reads};
 
 use crate::{Failed, Source};
 use std::alloc::{AllocError, Global};
@@ -28,7 +28,8 @@ impl SourcePlan {
 
     /// The same plan again.
     pub(crate) fn copy(&self, alloc: Global) -> Result<Self, AllocError>
-        ensures failing_reads { IfOk result (λ plan. plan.failing_reads.items ≡ self.now.failing_reads.items) }
+        ensures failing_reads { IfOk result (λ plan.
+            plan.failing_reads.items ≡ self.now.failing_reads.items) }
         ensures piece_limit { IfOk result (λ plan. plan.piece_limit ≡ self.now.piece_limit) }
     {
         Ok(SourcePlan {
@@ -50,7 +51,7 @@ pub struct MemSource {
 }
 
 impl MemSource {
-    ghost use Rattle.cd_io.specs.MemSource.{told_first, plan_of, reads_of};
+    ghost use Rattle.cd_io.specs.MemSource.{plan_of, reads_of, told_first};
 
     /// A source of some bytes.
     pub fn new(bytes: Vec<u8>, plan: SourcePlan) -> Self
@@ -78,7 +79,7 @@ impl MemSource {
 // The clauses of the trait, and that just the calls of the plan fail.
 impl Source for MemSource {
     ghost use Rattle.cd_io.specs.MemLink.{next_number};
-    ghost use Rattle.cd_io.specs.MemSource.{tells_of, plan_of, reads_of, fails, planned_count};
+    ghost use Rattle.cd_io.specs.MemSource.{fails, plan_of, planned_count, reads_of, tells_of};
 
     ghost source_tells = { tells_of };
 

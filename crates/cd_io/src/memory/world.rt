@@ -5,7 +5,7 @@ ghost use Rattle.std.specs.Option.{option_map};
 ghost use Rattle.std.specs.Str.{bytes_eq};
 ghost use Rattle.cd_io.specs.MemFile.{after_answer, shown};
 ghost use Rattle.cd_io.specs.MemSource.{told_first};
-ghost use Rattle.cd_io.specs.World.{Opens, is_failed, opening};
+ghost use Rattle.cd_io.specs.World.{is_failed, opening, Opens};
 
 use crate::{MemClock, MemDice, MemFile, MemSource, OutFault, Source, World};
 use std::alloc::{AllocError, Global};
@@ -24,7 +24,7 @@ pub struct MemWorld {
 }
 
 impl MemWorld {
-    ghost use Rattle.cd_io.specs.MemWorld.{tells_of, files_of, failing_of, calls_of};
+    ghost use Rattle.cd_io.specs.MemWorld.{calls_of, failing_of, files_of, tells_of};
 
     /// A world without files, whose clocks and dice begin with these pairs, each of what comes next and the step.
     pub fn new(alloc: Global, clock_pair: (u64, u64), dice_pair: (u64, u64)) -> Self
@@ -52,7 +52,8 @@ impl MemWorld {
         ensures ok { OnOk result (files_of self.new ≡ files_of self.old ++ shown file ∷ []) }
         ensures err { OnErr result (files_of self.new ≡ files_of self.old) }
         ensures faults { (tells_of self.new).faults ≡ (tells_of self.old).faults }
-        ensures reading_faults { (tells_of self.new).reading_faults ≡ (tells_of self.old).reading_faults }
+        ensures reading_faults { (tells_of self.new).reading_faults
+            ≡ (tells_of self.old).reading_faults }
         ensures clock { ⟦<MemWorld as World>⟧.world_clock_pair self.new
             ≡ ⟦<MemWorld as World>⟧.world_clock_pair self.old }
         ensures dice { ⟦<MemWorld as World>⟧.world_dice_pair self.new
@@ -83,7 +84,7 @@ impl MemWorld {
 // The clauses of the trait, and that just the calls of the plan fail, and those of a path without a text.
 impl World for MemWorld {
     ghost use Rattle.cd_io.specs.MemLink.{next_number};
-    ghost use Rattle.cd_io.specs.MemWorld.{tells_of, failing_of, calls_of, fails};
+    ghost use Rattle.cd_io.specs.MemWorld.{calls_of, failing_of, fails, tells_of};
 
     type Src = MemSource;
 
@@ -98,7 +99,8 @@ impl World for MemWorld {
     ghost world_dice_pair = { λ w. Some w.dice_pair };
 
     fn file(&mut self, path: &str) -> Result<MemSource, OutFault>
-        ensures opens { Opens ⟦<MemSource as Source>⟧.source_tells path.now result (tells_of self.old) (tells_of self.new) }
+        ensures opens { Opens ⟦<MemSource as Source>⟧.source_tells path.now result
+            (tells_of self.old) (tells_of self.new) }
         ensures clock_pair { self.new.clock_pair ≡ self.old.clock_pair }
         ensures dice_pair { self.new.dice_pair ≡ self.old.dice_pair }
 
@@ -143,7 +145,8 @@ fn open_in(
 ) -> Result<Option<MemSource>, AllocError>
     ensures found { IfOk result (λ found. option_map ⟦<MemSource as Source>⟧.source_tells found
         ≡ option_map told_first (opening path.now (map shown files.old.items))) }
-    ensures files { map shown files.new.items ≡ after_answer result path.now (map shown files.old.items) }
+    ensures files { map shown files.new.items
+        ≡ after_answer result path.now (map shown files.old.items) }
 {
     let Some(place) = place_of(files, path) else {
         return Ok(None);

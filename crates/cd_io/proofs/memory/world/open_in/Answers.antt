@@ -4,9 +4,9 @@ use Rattle.std.specs.Option.{option_map}
 use Rattle.std.specs.Str.{bytes_eq}
 use Rattle.cd_io.specs.declared.memory.file.MemFile.{MemFile}
 use Rattle.cd_io.specs.MemFile.{shown}
-use Rattle.cd_io.specs.MemSource.{told_first, tells_of}
+use Rattle.cd_io.specs.MemSource.{tells_of, told_first}
 use Rattle.cd_io.specs.World.{later}
-use Rattle.cd_io.proofs.Files.{opens_nothing, opens_first, opened_first}
+use Rattle.cd_io.proofs.Files.{opened_first, opens_first, opens_nothing}
 use Rattle.cd_io.proofs.memory.world.open_in.Goals as goal
 
 pub returns-in_default-clause-found : goal.returns-in_default-clause-found

@@ -1,4 +1,4 @@
-use Rattle.std.proofs.Common.{◌≤◌, ◌-◌, ℕ, false, length}
+use Rattle.std.proofs.Common.{◌≤◌, ◌-◌, false, length}
 use Rattle.cd_io.specs.Link.{SaysWhole}
 use Rattle.cd_io.proofs.traits.Link.say_whole.Given as goal
 
