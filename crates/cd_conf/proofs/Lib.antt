@@ -8,3 +8,4 @@ pub mod LineRuns
 pub mod Skips
 pub mod Texts
 pub mod Decimals
+pub mod TextFaults

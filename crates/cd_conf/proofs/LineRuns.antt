@@ -1,14 +1,16 @@
 -- Lines, one after the other.
-use Rattle.std.proofs.Common.{◌≡◌, ℕ, suc, ◌+◌, ◌==◌, ◌<◌, List, [], ◌∷◌, ◌++◌, Bool, true, false, length, ◌≤◌, Result, Ok, Err, IsOk, IfOk, Option, Some, None, refl, sym, ap, ◌∙◌, arith}
+use Rattle.std.proofs.Common.{◌≡◌, ℕ, suc, ◌+◌, ◌==◌, ◌<◌, List, [], ◌∷◌, ◌++◌, Bool, true, false, length, ◌≤◌, Result, Ok, Err, IsOk, IfOk, IfSome, Option, Some, None, refl, sym, ap, ◌∙◌, arith}
 use Rattle.cd_reading.specs.First.{◌>>=◌, unless}
 use Rattle.cd_reading.specs.Gives.{Gives, Refuses}
 use Rattle.cd_conf.specs.Characters.{after_run, front_run, may_stand}
-use Rattle.cd_conf.specs.Faults.{conf_fault, fault_at, unless_memory}
+use Rattle.cd_conf.specs.Faults.{conf_fault, fault_at, source_fault, text_fault, unless_memory}
+use Rattle.cd_io.specs.declared.source.ReadAllFault.{ReadAllFault}
+use Rattle.cd_io.specs.declared.source.ReadAllFault.TheVariants as source
 use Rattle.cd_conf.specs.Blanks.{behind_blanks}
 use Rattle.cd_conf.specs.declared.limits.TheConstants.{FILE_LIMIT}
 use Rattle.std.specs.Str.{IsUtf8, chars, is_utf8}
 use Rattle.std.proofs.lemmas.Str.{is_utf8-from_IsUtf8}
-use Rattle.std.proofs.lemmas.Bool.{le-leb}
+use Rattle.std.proofs.lemmas.Bool.{le-leb, lt-leb}
 use Rattle.cd_conf.specs.Pile.{Reads, Took, opens_in}
 use Rattle.cd_conf.specs.Position.{Position, at}
 use Rattle.cd_conf.specs.Repeated.{repeated}
@@ -170,3 +172,15 @@ unfolding statements_of_text
 not_text bytes short bad =
     ap (λ (b : Bool). after_tests b (is_utf8 bytes) bytes) (le-leb (length bytes) FILE_LIMIT short)
     ∙ ap (λ (b : Bool). after_tests true b bytes) bad
+
+long_text : (bytes : List ℕ) → FILE_LIMIT < length bytes → statements_of_text bytes ≡ Err (fault_at kinds.TooLong 0)
+unfolding statements_of_text
+long_text bytes long = ap (λ (b : Bool). after_tests b (is_utf8 bytes) bytes) (lt-leb (length bytes) FILE_LIMIT long)
+
+-- what a source that wasn't read to its end leads to
+pub not_whole : {X : Type 0} (view : X → List Statement) (left : Option (List ℕ)) (why : ReadAllFault) → (why ≡ source.TooLong → IfSome left (λ bytes. FILE_LIMIT < length bytes))
+    → IfSome left (λ bytes. Gives view text_fault (Err (source_fault why)) (statements_of_text bytes))
+not_whole view None why h = tt
+not_whole view (Some bytes) source.Failed h = tt
+not_whole view (Some bytes) source.TooLong h = long_text bytes (h refl)
+not_whole view (Some bytes) source.Memory h = tt

@@ -20,6 +20,7 @@ mod pile;
 mod place;
 mod quotes;
 mod runs;
+mod source;
 mod text;
 mod values;
 
@@ -27,6 +28,7 @@ pub use canonical::print;
 pub use fault::{ConfFault, ConfKind};
 pub use item::{Arg, Args, Item, Items};
 pub use limits::{DECIMALS_LIMIT, FILE_LIMIT, NESTING_LIMIT, NUMBER_LIMIT};
+pub use source::read;
 pub use text::read_text;
 
 #[cfg(test)]
