@@ -74,7 +74,7 @@ line_goes_on p q c e l h =
     let no : (c == 10) ≡ false = ne_eqb c 10 h in
     let line : line_after p.line c ≡ p.line = rw no refl in
     let here : next_line p ≡ line_behind_newline p.line (skip_while (λ c. not (is_newline c)) q.rest)
-      = ap (λ (cs : List ℕ). line_behind_newline p.line (skip_while (λ c. not (is_newline c)) cs)) e ∙ rw no refl in
+    = ap (λ (cs : List ℕ). line_behind_newline p.line (skip_while (λ c. not (is_newline c)) cs)) e ∙ rw no refl in
     ap (λ (n : ℕ). line_behind_newline n (skip_while (λ c. not (is_newline c)) q.rest)) (l ∙ line) ∙ sym here
 
 pub text_ends : (p : Position) → p.rest ≡ [] → p ≡ next_line p
@@ -95,7 +95,7 @@ blanks_shrink line (c ∷ []) = by (is_blank c) refl
 blanks_shrink line (c ∷ d ∷ cs) = by (is_blank c) (c == 92 && d == 10) refl refl (blanks_shrink line (d ∷ cs)) (blanks_shrink (line + 1) cs)
   where
     by : (t u : Bool) → is_blank c ≡ t → (c == 92 && d == 10) ≡ u → length (after_blanks line (d ∷ cs)).rest ≤ length (d ∷ cs) → length (after_blanks (line + 1) cs).rest ≤ length cs
-      → length (after_blanks line (c ∷ d ∷ cs)).rest ≤ length (c ∷ d ∷ cs)
+        → length (after_blanks line (c ∷ d ∷ cs)).rest ≤ length (c ∷ d ∷ cs)
     by true u e f one two = rw e (omega (arith, one))
     by false true e f one two = rw (e, f) (omega (arith, two))
     by false false e f one two = rw (e, f) (omega arith)

@@ -45,8 +45,8 @@ key_shorter kind (d ∷ cs) (c ∷ key) head rest k e = by (may_stand Key d) ref
   where
     by : (t : Bool) → may_stand Key d ≡ t → length rest < length (d ∷ cs)
     by true h =
-      let r : rest ≡ after_run Key (d ∷ cs) = sym (ap rest_of (some_same (record { kind = kind; key = c ∷ key }, after_run Key (d ∷ cs)) (head, rest) e)) in
-      let s = run_shorter Key d (d ∷ cs) cs h refl in omega (arith, ap length r, s)
+        let r : rest ≡ after_run Key (d ∷ cs) = sym (ap rest_of (some_same (record { kind = kind; key = c ∷ key }, after_run Key (d ∷ cs)) (head, rest) e)) in
+        let s = run_shorter Key d (d ∷ cs) cs h refl in omega (arith, ap length r, s)
     by false h = absurd (let n : [] ≡ c ∷ key = sym (front_none Key d cs h) ∙ k in cc n)
 
 from_shorter : (kind : LineKind) (cs : List ℕ) (head : Head) (rest : List ℕ) → head_from kind cs ≡ Some (head, rest) → length rest < length cs
@@ -142,12 +142,13 @@ pub said : (old new : Pile) (line : ℕ) (head : Head) (p : Position) (args now 
     → Took old new (statement_behind (opens_in old) line head p) next
 said old new line head p args now end next o v n e put =
     let k = ok_value (open_behind (opens_in old) line head.kind head.key) o in
-    let r = put k.0 k.1 in
-    (statement_of head.kind head.key args line ∷ [],
-     valued (opens_in old) k.0 line head p args end k.1 v
-     ∙ ap (said_by line head k.0 args) (ap (λ (xs : List Arg). line_behind head.kind line xs end) (sym n) ∙ e)
-     ∙ ap (λ (os : List Open). Ok (Some (statement_of head.kind head.key args line ∷ [], stand os next))) (sym r.1),
-     r.0)
+    let r = put k.0 k.1 in (
+      statement_of head.kind head.key args line ∷ [],
+      valued (opens_in old) k.0 line head p args end k.1 v
+          ∙ ap (said_by line head k.0 args) (ap (λ (xs : List Arg). line_behind head.kind line xs end) (sym n) ∙ e)
+          ∙ ap (λ (os : List Open). Ok (Some (statement_of head.kind head.key args line ∷ [], stand os next))) (sym r.1),
+      r.0,
+    )
 
 pub if_ok : {A E : Type 0} (r : Result A E) (P Q : A → Type 0) → ((x : A) → P x → Q x) → IfOk r P → IfOk r Q
 if_ok (Ok x) P Q f h = f x h

@@ -24,13 +24,13 @@ pub closes : (old rest : List OpenSection) (s : OpenSection) (here kids mid now 
     → (flat_map front_of rest ++ statements_of_items now ≡ (flat_map front_of old ++ statements_of_items here) ++ End ∷ []) × (reverse (map open_of rest) ≡ os)
 closes old rest s here kids mid now item o os was e kid m n i =
     let stack : reverse (map open_of old) ≡ open_of s ∷ reverse (map open_of rest)
-      = ap (λ (ss : List OpenSection). reverse (map open_of ss)) e ∙ ap reverse (map_push open_of rest s) ∙ reverse-append (map open_of rest) (open_of s ∷ []) in
+    = ap (λ (ss : List OpenSection). reverse (map open_of ss)) e ∙ ap reverse (map_push open_of rest s) ∙ reverse-append (map open_of rest) (open_of s ∷ []) in
     let tops : open_of s ∷ reverse (map open_of rest) ≡ o ∷ os = sym stack ∙ was in
     let inner : statements_of item ≡ StartOf s.key s.args s.line ∷ (statements_of_items here ++ End ∷ [])
-      = i ∙ ap (λ (xs : List Item). StartOf s.key s.args s.line ∷ (statements_of_items xs ++ End ∷ [])) kid in
+    = i ∙ ap (λ (xs : List Item). StartOf s.key s.args s.line ∷ (statements_of_items xs ++ End ∷ [])) kid in
     let level : now ≡ s.before ++ item ∷ [] = n ∙ ap (λ (xs : List Item). xs ++ item ∷ []) m in
     let all : flat_map front_of old ≡ flat_map front_of rest ++ (statements_of_items s.before ++ StartOf s.key s.args s.line ∷ [])
-      = ap (flat_map front_of) e ∙ flat_map-append front_of rest (s ∷ []) ∙ ap (λ (xs : List Statement). flat_map front_of rest ++ xs) (append-nil (front_of s)) in
+    = ap (flat_map front_of) e ∙ flat_map-append front_of rest (s ∷ []) ∙ ap (λ (xs : List Statement). flat_map front_of rest ++ xs) (append-nil (front_of s)) in
     let own : statements_of_items now ≡ statements_of_items s.before ++ (StartOf s.key s.args s.line ∷ (statements_of_items here ++ End ∷ []))
-      = ap statements_of_items level ∙ flat_map-append statements_of s.before (item ∷ []) ∙ ap (λ (xs : List Statement). statements_of_items s.before ++ xs) (append-nil (statements_of item) ∙ inner) in
+    = ap statements_of_items level ∙ flat_map-append statements_of s.before (item ∷ []) ∙ ap (λ (xs : List Statement). statements_of_items s.before ++ xs) (append-nil (statements_of item) ∙ inner) in
     (rw (all, own) (simp append_assoc), cc)

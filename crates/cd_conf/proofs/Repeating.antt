@@ -22,10 +22,10 @@ regroup {S} {A} {F} front more (Err f) = refl
 
 pub begins : {S A F : Type 0} (size : S → ℕ) (step : S → Result (Option (List A × S)) F) (front : List A) (s : S) → front ≡ [] → Going size step front s (repeated step (suc (size s)) s)
 begins {S} {A} {F} size step front s e = record {
-    times = suc (size s);
-    enough = omega arith;
-    same = ap (λ (xs : List A). in_front xs (repeated step (suc (size s)) s)) e ∙ plain (repeated step (suc (size s)) s)
-  }
+  times = suc (size s);
+  enough = omega arith;
+  same = ap (λ (xs : List A). in_front xs (repeated step (suc (size s)) s)) e ∙ plain (repeated step (suc (size s)) s);
+}
   where
     plain : (r : Result (List A × S) F) → in_front [] r ≡ r
     plain (Ok r) = refl
@@ -38,11 +38,11 @@ goes_on {S} {A} {F} size step front now more s t total g e less n = by g.times g
     by : (k : ℕ) → size s < k → in_front front (repeated step k s) ≡ total → Going size step now t total
     by zero lt same = absurd (omega arith)
     by (suc k) lt same = record {
-        times = k;
-        enough = omega arith;
-        same = ap (λ (xs : List A). in_front xs (repeated step k t)) n ∙ sym (regroup front more (repeated step k t))
-          ∙ ap (in_front front) (sym (opened step k s (Ok (Some (more, t))) e)) ∙ same
-      }
+      times = k;
+      enough = omega arith;
+      same = ap (λ (xs : List A). in_front xs (repeated step k t)) n ∙ sym (regroup front more (repeated step k t))
+          ∙ ap (in_front front) (sym (opened step k s (Ok (Some (more, t))) e)) ∙ same;
+    }
 
 pub stops : {S A F : Type 0} (size : S → ℕ) (step : S → Result (Option (List A × S)) F) (front : List A) (s : S) (total : Result (List A × S) F)
     → Going size step front s total → step s ≡ Ok None → total ≡ Ok (front, s)

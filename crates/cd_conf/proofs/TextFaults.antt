@@ -68,7 +68,7 @@ of_value_from line (c ∷ cs) =
     choose (c == 34) (quoted_arg line (quoted_at (at line cs)) >>= some_value) _
     (bind (quoted_arg line (quoted_at (at line cs))) some_value (of_quoted line (quoted_at (at line cs))) (λ v. record { fact = refl }))
     (choose (is_in_word c) (word_at (at line (c ∷ cs)) >>= some_value) (Ok None)
-      (bind (word_at (at line (c ∷ cs))) some_value (of_word_at (at line (c ∷ cs))) (λ v. record { fact = refl })) (record { fact = refl }))
+    (bind (word_at (at line (c ∷ cs))) some_value (of_word_at (at line (c ∷ cs))) (λ v. record { fact = refl })) (record { fact = refl }))
 
 of_value : (p : Position) → IsOfText (value_at p)
 unfolding value_at
@@ -123,7 +123,7 @@ unfolding statement_behind
 of_behind opens line head p =
     bind (open_behind opens line head.kind head.key) _ (of_nesting opens line head.kind head.key)
     (λ further. bind (values_behind head.kind p) _ (of_values_behind head.kind p)
-      (λ values. bind (line_behind head.kind line values.0 values.1) _ (of_line_behind head.kind line values.0 values.1) (λ next. (record { fact = refl }))))
+    (λ values. bind (line_behind head.kind line values.0 values.1) _ (of_line_behind head.kind line values.0 values.1) (λ next. (record { fact = refl }))))
 
 of_statement : (opens : List Open) (line : ℕ) (head : Option (Head × List ℕ)) → IsOfText (statement_from opens line head)
 of_statement opens line None = record { fact = refl }

@@ -60,7 +60,8 @@ deeper indent = indent ++ codes "  "
 abbrev pub text_step : Item-F (List ℕ → List ℕ) → List ℕ → List ℕ
 text_step i indent =
     if i.section
-    then start_text indent i.key i.args ++ flat_map (λ child. child (deeper indent)) i.children ++ end_text indent i.key
+    then start_text indent i.key i.args ++ flat_map (λ child. child (deeper indent)) i.children
+      ++ end_text indent i.key
     else option_text indent i.key i.args
 
 abbrev pub item_text : Item → List ℕ → List ℕ

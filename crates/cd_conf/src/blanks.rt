@@ -18,7 +18,11 @@ pub fn split_place<'a>(place: Place<'a>) -> Option<(char, Place<'a>)>
     match split_first(place.rest) {
         None => None,
         Some((c, rest)) => {
-            let line = if c == '\n' { place.line + 1 } else { place.line };
+            let line = if c == '\n' {
+                place.line + 1
+            } else {
+                place.line
+            };
             Some((c, Place { line, rest }))
         }
     }
@@ -30,7 +34,10 @@ fn newline(place: Place) -> Option<Place>
     ensures later { IfSome result (λ next. characters_left next < characters_left place.entry) }
 {
     match split_first(place.rest) {
-        Some(('\n', rest)) => Some(Place { line: place.line + 1, rest }),
+        Some(('\n', rest)) => Some(Place {
+            line: place.line + 1,
+            rest,
+        }),
         _ => None,
     }
 }
@@ -51,7 +58,10 @@ fn blank(place: Place) -> Option<Place>
     match split_first(place.rest) {
         None => None,
         Some((c, rest)) => {
-            let next = Place { line: place.line, rest };
+            let next = Place {
+                line: place.line,
+                rest,
+            };
             if is_blank(c) {
                 Some(next)
             } else if c == '\\' {

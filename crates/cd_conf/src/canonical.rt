@@ -11,7 +11,7 @@ ghost use Rattle.cd_conf.specs.Canonical.{
   option_text,
   spaced,
   start_text,
-  value_text
+  value_text,
 };
 ghost use Rattle.cd_conf.specs.Parts.{args_of, key_of};
 ghost use Rattle.cd_value.specs.Print.{digit};

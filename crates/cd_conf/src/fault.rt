@@ -54,7 +54,10 @@ impl From<AllocError> for ConfFault {
     ghost from_gives = { λ _ e. e ≡ record { kind = kinds.Memory; line = 0 } };
 
     fn from(_: AllocError) -> Self {
-        ConfFault { kind: ConfKind::Memory, line: 0 }
+        ConfFault {
+            kind: ConfKind::Memory,
+            line: 0,
+        }
     }
 }
 
@@ -62,7 +65,10 @@ impl<T: Drop> From<AllocFailed<T>> for ConfFault {
     ghost from_gives = { λ _ e. e ≡ record { kind = kinds.Memory; line = 0 } };
 
     fn from(_: AllocFailed<T>) -> Self {
-        ConfFault { kind: ConfKind::Memory, line: 0 }
+        ConfFault {
+            kind: ConfKind::Memory,
+            line: 0,
+        }
     }
 }
 
@@ -70,6 +76,9 @@ impl From<Memory> for ConfFault {
     ghost from_gives = { λ _ e. e ≡ record { kind = kinds.Memory; line = 0 } };
 
     fn from(_: Memory) -> Self {
-        ConfFault { kind: ConfKind::Memory, line: 0 }
+        ConfFault {
+            kind: ConfKind::Memory,
+            line: 0,
+        }
     }
 }

@@ -1,9 +1,8 @@
-//! The text of a configuration file, as collectd.conf(5) has it: its items, or its first fault, and
-//! the canonical text of items. It stands on `cd_value`, `cd_text` and `cd_reading`, takes no handle.
-//!
-//! Read first `specs/Statements.antt` (the lines of a text and their first fault), `specs/Values.antt`
-//! and `specs/Numbers.antt` (values), `specs/Tree.antt` (items) and `specs/Canonical.antt` (the text
-//! printed). A `Place` keeps its line within the limit on texts. Begin a change at `text.rt`.
+//! The text of a configuration file, as collectd.conf(5) has it: its items, or its first fault and line; and the
+//! canonical text of items. It stands on `cd_io` for sources, on `cd_text`, `cd_value` and `cd_reading`; no handle.
+//! Read first `specs/Statements.antt` (lines, nesting, the first fault), `Values.antt`, `Numbers.antt` and
+//! `Quotes.antt` (values), `Tree.antt` (items) and `Canonical.antt` (what is printed). The invariant: the line of a
+//! `Place` is within the limit on texts. A change begins in `text.rt`; one of a value's form in `values.rt`.
 #![tactic(auto)]
 
 mod blanks;

@@ -23,7 +23,10 @@ fn line_end(place: Place) -> Result<Place, ConfFault>
     if is_line_end(place.rest) {
         Ok(next_line(place))
     } else {
-        Err(ConfFault { kind: ConfKind::BadValue, line: place.line })
+        Err(ConfFault {
+            kind: ConfKind::BadValue,
+            line: place.line,
+        })
     }
 }
 
@@ -48,7 +51,10 @@ fn close(line: u32, place: Place) -> Result<Place, ConfFault>
         Some(behind) => line_end(skip_blanks(behind)),
         None => {
             let _ = line_end(place)?;
-            Err(ConfFault { kind: ConfKind::BadValue, line })
+            Err(ConfFault {
+                kind: ConfKind::BadValue,
+                line,
+            })
         }
     }
 }
@@ -68,7 +74,10 @@ pub fn line_behind<'a>(
         LineKind::OptionLine => {
             let next = line_end(place)?;
             if args.is_empty() {
-                Err(ConfFault { kind: ConfKind::BadValue, line })
+                Err(ConfFault {
+                    kind: ConfKind::BadValue,
+                    line,
+                })
             } else {
                 Ok(next)
             }

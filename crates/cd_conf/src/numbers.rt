@@ -21,7 +21,7 @@ ghost use Rattle.cd_conf.specs.Numbers.{
   number_arg,
   plain_arg,
   with_sign,
-  word_arg
+  word_arg,
 };
 ghost use Rattle.cd_text.specs.Digits.{after_place, is_dot};
 ghost use Rattle.std.specs.Char.{digit_value};
@@ -31,11 +31,11 @@ ghost use Rattle.std.specs.Prelude.{IfSome, length, ◌*◌, ◌+◌, ◌^◌, �
 ghost use Rattle.std.specs.Str.Parse.{
   digits_value_after,
   starts_with_minus,
-  without_leading_sign
+  without_leading_sign,
 };
 
-use crate::form::Form;
 use crate::fault::{ConfFault, ConfKind};
+use crate::form::Form;
 use crate::item::Arg;
 use crate::limits::{DECIMALS_LIMIT, NUMBER_LIMIT};
 use cd_value::{MILLIONTHS, Text};
@@ -129,9 +129,17 @@ fn form_of(text: &[u8]) -> Option<Form<'_>>
     ensures { option_map digits_in result ≡ digits_of text.now }
 {
     if is_hexadecimal(text) {
-        Some(Form { base: 16, whole: &text[2..], decimals: &text[..0] })
+        Some(Form {
+            base: 16,
+            whole: &text[2..],
+            decimals: &text[..0],
+        })
     } else if is_octal(text) {
-        Some(Form { base: 8, whole: &text[1..], decimals: &text[..0] })
+        Some(Form {
+            base: 8,
+            whole: &text[1..],
+            decimals: &text[..0],
+        })
     } else {
         decimal_form(text)
     }
@@ -257,7 +265,10 @@ fn number_arg(line: u32, is_negative: bool, magnitude: Option<u128>) -> Result<A
 {
     match magnitude {
         Some(magnitude) => Ok(Arg::Number(with_sign(is_negative, magnitude))),
-        None => Err(ConfFault { kind: ConfKind::BadValue, line }),
+        None => Err(ConfFault {
+            kind: ConfKind::BadValue,
+            line,
+        }),
     }
 }
 

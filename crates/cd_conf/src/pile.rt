@@ -7,7 +7,7 @@ ghost use Rattle.cd_conf.specs.Statements.{
   StartOf,
   closed,
   open_behind,
-  statement_of
+  statement_of,
 };
 ghost use Rattle.cd_conf.specs.Faults.{conf_fault};
 ghost use Rattle.cd_conf.specs.Tree.{statements_of_items};
@@ -71,7 +71,10 @@ impl Pile {
             LineKind::OptionLine => Ok(()),
             LineKind::SectionStart => {
                 if self.sections.len() >= NESTING_LIMIT {
-                    Err(ConfFault { kind: ConfKind::TooDeep, line })
+                    Err(ConfFault {
+                        kind: ConfKind::TooDeep,
+                        line,
+                    })
                 } else {
                     Ok(())
                 }
@@ -88,7 +91,10 @@ impl Pile {
     {
         match self.sections.last() {
             Some(section) if section.key.as_str().eq_ignore_ascii_case(key.as_str()) => Ok(()),
-            _ => Err(ConfFault { kind: ConfKind::WrongEnd, line }),
+            _ => Err(ConfFault {
+                kind: ConfKind::WrongEnd,
+                line,
+            }),
         }
     }
 
@@ -97,7 +103,13 @@ impl Pile {
         ensures { OnOk result (Reads self.old self.new (OptionOf key args line) (opens_in self.old)) }
     {
         let children = Items::new(alloc);
-        self.here.push(Item { key, section: false, args, children, line })?;
+        self.here.push(Item {
+            key,
+            section: false,
+            args,
+            children,
+            line,
+        })?;
         Ok(())
     }
 
@@ -107,7 +119,12 @@ impl Pile {
             (open_section key line ∷ opens_in self.old)) }
     {
         let before = mem::replace(&mut self.here, Items::new(alloc));
-        self.sections.push(OpenSection { before, key, args, line })?;
+        self.sections.push(OpenSection {
+            before,
+            key,
+            args,
+            line,
+        })?;
         Ok(())
     }
 
@@ -119,9 +136,20 @@ impl Pile {
         let Some(section) = self.sections.pop() else {
             return Ok(());
         };
-        let OpenSection { before, key, args, line } = section;
+        let OpenSection {
+            before,
+            key,
+            args,
+            line,
+        } = section;
         let children = mem::replace(&mut self.here, before);
-        self.here.push(Item { key, section: true, args, children, line })?;
+        self.here.push(Item {
+            key,
+            section: true,
+            args,
+            children,
+            line,
+        })?;
         Ok(())
     }
 
@@ -130,7 +158,7 @@ impl Pile {
         ensures { (further : List Open) →
             open_behind (opens_in self.old) line head.kind head.key ≡ Ok further →
             OnOk result (Reads self.old self.new
-                (statement_of head.kind head.key args line) further) }
+            (statement_of head.kind head.key args line) further) }
     {
         let Head { kind, key } = head;
         match kind {

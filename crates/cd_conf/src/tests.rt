@@ -1,15 +1,21 @@
 //! Cases worked by hand from the rules.
-use crate::{ConfKind, FILE_LIMIT, print, read_text};
+use crate::{ConfFault, FILE_LIMIT, Items, print, read, read_text};
+use cd_io::{MemSource, SourcePlan};
 use cd_value::Memory;
 use std::alloc::Global;
 use std::test::Fail;
 
-/// The canonical text of a text's items, or its first fault.
-fn shown(alloc: Global, text: &[u8]) -> Result<String, Memory> {
-    match read_text(alloc, text) {
+/// The canonical text of items, or a fault.
+fn shown_result(alloc: Global, read: Result<Items, ConfFault>) -> Result<String, Memory> {
+    match read {
         Ok(items) => Ok(print(alloc, &items)?.into_string()),
         Err(fault) => Ok(format!(in alloc; "{} in line {}", fault.kind, fault.line)?),
     }
+}
+
+/// The canonical text of a text's items, or its first fault.
+fn shown(alloc: Global, text: &[u8]) -> Result<String, Memory> {
+    shown_result(alloc, read_text(alloc, text))
 }
 
 #[test]
@@ -75,15 +81,27 @@ fn reads_and_prints_lines(rt: HostRuntime) -> Result<(), Fail> {
         ("a 1", "a 1\n"),
         ("Foo.bar 1\n", "Foo \".bar\" 1\n"),
         ("a\"b\"c\n", "a \"b\" \"c\"\n"),
-        ("a +1.50 -0 007 0x1F 0.000001 -12.5\n", "a 1.5 0 7 31 0.000001 -12.5\n"),
-        ("a 1. .5 08 0x 0X1 1e5 - +\n", "a \"1.\" \".5\" \"08\" \"0x\" \"0X1\" \"1e5\" \"-\" \"+\"\n"),
+        (
+            "a +1.50 -0 007 0x1F 0.000001 -12.5\n",
+            "a 1.5 0 7 31 0.000001 -12.5\n",
+        ),
+        (
+            "a 1. .5 08 0x 0X1 1e5 - +\n",
+            "a \"1.\" \".5\" \"08\" \"0x\" \"0X1\" \"1e5\" \"-\" \"+\"\n",
+        ),
         ("a 1000000000000000\n", "a 1000000000000000\n"),
-        ("a TRUE yes On false no oFF tru\n", "a true true true false false false \"tru\"\n"),
+        (
+            "a TRUE yes On false no oFF tru\n",
+            "a true true true false false false \"tru\"\n",
+        ),
         ("a \"x\\\"y\\\\z\\n#\"\n", "a \"x\\\"y\\\\zn#\"\n"),
         ("a \"b\\\n \t c\\\nd\" e\n", "a \"bcd\" \"e\"\n"),
         ("a \"\u{e9}\" \"\"\n", "a \"\u{e9}\" \"\"\n"),
         ("a 1 # c \\\nb \\\n2# \"\n", "a 1\nb 2\n"),
-        ("<A x>\nb 1\n<C>\n</c>\n</a> #\n", "<A \"x\">\n  b 1\n  <C>\n  </C>\n</A>\n"),
+        (
+            "<A x>\nb 1\n<C>\n</c>\n</a> #\n",
+            "<A \"x\">\n  b 1\n  <C>\n  </C>\n</A>\n",
+        ),
     ] {
         let got = shown(rt.alloc(), text.as_bytes())?;
         assert_eq!(rt; got.as_str(), want, "at {text}");
@@ -105,7 +123,28 @@ fn keeps_the_limits(rt: HostRuntime) -> Result<(), Fail> {
     let mut long = vec![in rt.alloc(); b'#'; FILE_LIMIT]?;
     assert_eq!(rt; shown(rt.alloc(), long.as_slice())?.as_str(), "");
     long.push(0xff)?;
-    assert_eq!(rt; shown(rt.alloc(), long.as_slice())?.as_str(), "too long in line 0");
+    assert_eq!(rt;
+        shown(rt.alloc(), long.as_slice())?.as_str(),
+        "too long in line 0"
+    );
+    Ok(())
+}
+
+#[test]
+fn reads_a_source(rt: HostRuntime) -> Result<(), Fail> {
+    let alloc = rt.alloc();
+    for (text, failing, want) in [
+        ("a 1\n<B>\n</B>\n", 9, "a 1\n<B>\n</B>\n"),
+        ("a 1\n<B>\n", 9, "unclosed section in line 2"),
+        ("a 1\n=\n", 2, "read failed in line 0"),
+    ] {
+        let mut plan = SourcePlan::new(alloc);
+        plan.piece_limit = 3;
+        plan.failing_reads.push(failing)?;
+        let mut source = MemSource::new(text.as_bytes().to_vec(alloc)?, plan);
+        let got = shown_result(alloc, read(alloc, &mut source))?;
+        assert_eq!(rt; got.as_str(), want, "at {text}");
+    }
     Ok(())
 }
 

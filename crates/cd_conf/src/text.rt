@@ -10,7 +10,7 @@ ghost use Rattle.cd_conf.specs.Statements.{
   statement_at,
   statement_behind,
   statements_at,
-  statements_of_text
+  statements_of_text,
 };
 ghost use Rattle.cd_conf.specs.Tree.{statements_of_items};
 ghost use Rattle.cd_reading.specs.Gives.{Gives, Refuses};
@@ -28,8 +28,8 @@ ghost use Rattle.std.specs.Prelude.{
   ◌≤◌,
 };
 
-use crate::chars::split_first;
 use crate::blanks::{is_line_end, next_line, skip_blanks};
+use crate::chars::split_first;
 use crate::fault::{ConfFault, ConfKind};
 use crate::head::{Head, head_at};
 use crate::item::Items;
@@ -73,9 +73,15 @@ fn take_statement<'a>(
     ensures later { IfOk result (λ next. characters_left next < characters_left place.entry) }
 {
     match head_at(alloc, place.rest)? {
-        None => Err(ConfFault { kind: ConfKind::BadKey, line: place.line }),
+        None => Err(ConfFault {
+            kind: ConfKind::BadKey,
+            line: place.line,
+        }),
         Some((head, rest)) => {
-            let behind = skip_blanks(Place { line: place.line, rest });
+            let behind = skip_blanks(Place {
+                line: place.line,
+                rest,
+            });
             take_behind(alloc, pile, place.line, head, behind)
         }
     }
@@ -137,13 +143,25 @@ pub fn read_text(alloc: Global, bytes: &[u8]) -> Result<Items, ConfFault>
     ensures { Gives statements_of_items conf_fault result (statements_of_text bytes.now) }
 {
     if bytes.len() > FILE_LIMIT {
-        return Err(ConfFault { kind: ConfKind::TooLong, line: 0 });
+        return Err(ConfFault {
+            kind: ConfKind::TooLong,
+            line: 0,
+        });
     }
     match str::from_utf8(bytes) {
-        Ok(text) => lines(alloc, skip_blanks(Place { line: 1, rest: text })),
+        Ok(text) => lines(
+            alloc,
+            skip_blanks(Place {
+                line: 1,
+                rest: text,
+            }),
+        ),
         Err(error) => {
             let line = bad_line(bytes, error.valid_up_to());
-            Err(ConfFault { kind: ConfKind::NotText, line })
+            Err(ConfFault {
+                kind: ConfKind::NotText,
+                line,
+            })
         }
     }
 }

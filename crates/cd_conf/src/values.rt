@@ -28,7 +28,10 @@ fn quoted_arg<'a>(alloc: Global, line: u32, place: Place<'a>) -> Result<(Arg, Pl
 {
     match read_quoted(alloc, place)? {
         Some((text, behind)) => Ok((Arg::Words(text), skip_blanks(behind))),
-        None => Err(ConfFault { kind: ConfKind::Unterminated, line }),
+        None => Err(ConfFault {
+            kind: ConfKind::Unterminated,
+            line,
+        }),
     }
 }
 
@@ -40,7 +43,13 @@ fn plain_word<'a>(alloc: Global, place: Place<'a>) -> Result<(Arg, Place<'a>), C
 {
     let (word, rest) = split_run(alloc, Kind::Word, place.rest)?;
     let arg = word_arg(place.line, word)?;
-    Ok((arg, skip_blanks(Place { line: place.line, rest })))
+    Ok((
+        arg,
+        skip_blanks(Place {
+            line: place.line,
+            rest,
+        }),
+    ))
 }
 
 /// The value that begins at a place behind blanks, and the place behind the blanks after it; `None`

@@ -10,9 +10,9 @@ returns-then-c-eq10-clause-place c =
 
 pub loop-c-preserved : goal.loop-c-preserved
 loop-c-preserved c = record {
-    same = line_goes_on (position c.loop-c.place) (position c.in-Some.behind) c.in-Some.c c.in-Some.ensures.first c.in-Some.ensures.line c.if-c-eq10.false ∙ c.loop-c.invariant.same;
-    later = omega (arith, c.in-Some.ensures.later)
-  }
+  same = line_goes_on (position c.loop-c.place) (position c.in-Some.behind) c.in-Some.c c.in-Some.ensures.first c.in-Some.ensures.line c.if-c-eq10.false ∙ c.loop-c.invariant.same;
+  later = omega (arith, c.in-Some.ensures.later);
+}
 
 pub returns-clause-place : goal.returns-clause-place
 returns-clause-place c = text_ends (position c.loop-c.place) c.in_default.ensures.first ∙ c.loop-c.invariant.same

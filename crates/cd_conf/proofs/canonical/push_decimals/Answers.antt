@@ -12,11 +12,11 @@ nonzero_rem-rest c = let p = one-le-pow (c.loop-left.left - 1) 10 (lit< tt) in o
 
 pub loop-left-preserved : goal.loop-left-preserved
 loop-left-preserved c = record {
-    small = omega arith;
-    text = rw c.pow-unit.ensures
+  small = omega arith;
+  text = rw c.pow-unit.ensures
       (puts_digit c.loop-left.left (c.loop-left.left - 1) c.loop-left.rest (string_bytes c.loop-left.text) (string_bytes c.push_digit.new.text) _ (omega arith) (omega arith)
-        (rw c.pow-unit.ensures at c.in_ok-push_digit.ensures) c.loop-left.invariant.text)
-  }
+      (rw c.pow-unit.ensures at c.in_ok-push_digit.ensures) c.loop-left.invariant.text);
+}
 
 pub returns-else-rest-gt0 : goal.returns-else-rest-gt0
 returns-else-rest-gt0 c = ends_at_zero c.loop-left.left c.loop-left.rest (string_bytes c.loop-left.text) _ (omega arith) c.loop-left.invariant.text

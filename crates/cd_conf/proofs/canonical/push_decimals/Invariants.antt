@@ -6,9 +6,9 @@ use Rattle.cd_conf.proofs.canonical.push_decimals.Given as goal
 
 abbrev pub invariant-loop-left : goal.invariant-loop-left
 invariant-loop-left l = record {
-    small : l.left ≤ DECIMALS_LIMIT;
-    text : string_bytes l.text ++ decimals l.left l.rest ≡ string_bytes l.fn.text ++ decimals l.fn.places l.fn.n
-  }
+  small : l.left ≤ DECIMALS_LIMIT;
+  text : string_bytes l.text ++ decimals l.left l.rest ≡ string_bytes l.fn.text ++ decimals l.fn.places l.fn.n;
+}
 
 abbrev pub decreases-loop-left : goal.decreases-loop-left
 decreases-loop-left l = l.left

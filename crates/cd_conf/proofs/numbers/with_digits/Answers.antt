@@ -11,7 +11,7 @@ loop-digit-preserved c =
     record {
       low = omega (arith, w.0, w.1);
       value = ap (λ (n : ℕ). digits_value_after c.args.base n (drop (c.loop-digit.digit-index + 1) c.args.digits.now)) w.0
-        ∙ sym (one_more c.args.base c.loop-digit.number c.args.digits.now c.loop-digit.digit-index c.loop-digit-test.true) ∙ c.loop-digit.invariant.value
+          ∙ sym (one_more c.args.base c.loop-digit.number c.args.digits.now c.loop-digit.digit-index c.loop-digit-test.true) ∙ c.loop-digit.invariant.value;
     }
 
 pub returns-in-None : goal.returns-in-None

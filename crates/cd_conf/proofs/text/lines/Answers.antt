@@ -17,8 +17,8 @@ returns-in_err-next c =
     let p = err_from_is_err_and c.from_residual.result c.from_residual.ensures.1 in
     rw (p.1, p.2)
     (failed (position c.args.place) (conf_fault c.in_err-next.field-0.0)
-      (faults (λ (s : Stand). length s.place.rest) line_at (statements_in c.loop-pile.pile) (stand (opens_in c.loop-pile.pile) (position c.loop-pile.place))
-        (conf_fault c.in_err-next.field-0.0) (all_lines (position c.args.place)) c.loop-pile.invariant c.in_err-next.ensures.fault))
+    (faults (λ (s : Stand). length s.place.rest) line_at (statements_in c.loop-pile.pile) (stand (opens_in c.loop-pile.pile) (position c.loop-pile.place))
+    (conf_fault c.in_err-next.field-0.0) (all_lines (position c.args.place)) c.loop-pile.invariant c.in_err-next.ensures.fault))
 
 pub loop-pile-preserved : goal.loop-pile-preserved
 loop-pile-preserved c =
@@ -33,8 +33,8 @@ returns c =
     let ended = rw c.in_default.is at c.in_ok-next.ensures.ended in
     let stays = rw c.in_default.is at c.in_ok-next.ensures.stays in
     let all = stops (λ (s : Stand). length s.place.rest) line_at (statements_in c.loop-pile.pile) (stand (opens_in c.loop-pile.pile) (position c.loop-pile.place))
-      (all_lines (position c.args.place)) c.loop-pile.invariant ended in
+    (all_lines (position c.args.place)) c.loop-pile.invariant ended in
     let read : statements_at (position c.args.place) ≡ closed (opens_in c.take_line.new.pile) (statements_in c.take_line.new.pile)
-      = finished (position c.args.place) (statements_in c.loop-pile.pile) (stand (opens_in c.loop-pile.pile) (position c.loop-pile.place)) all
-        ∙ ap (λ (p : Pile). closed (opens_in p) (statements_in p)) (sym stays) in
+    = finished (position c.args.place) (statements_in c.loop-pile.pile) (stand (opens_in c.loop-pile.pile) (position c.loop-pile.place)) all
+    ∙ ap (λ (p : Pile). closed (opens_in p) (statements_in p)) (sym stays) in
     subst (λ (r : Result (List Statement) ConfFault). Gives statements_of_items conf_fault c.finish.result r) (sym read) c.finish.ensures

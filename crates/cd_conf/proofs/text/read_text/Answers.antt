@@ -18,9 +18,9 @@ use Rattle.cd_conf.proofs.text.read_text.Goals as goal
 pub returns-in-Ok : goal.returns-in-Ok
 returns-in-Ok c =
     let start : position c.skip_blanks.result ≡ behind_blanks (at 1 (chars c.args.bytes.now))
-      = c.skip_blanks.ensures.place ∙ ap (λ (text : List ℕ). behind_blanks (at 1 (chars text))) c.in-Ok.ensures.cases.0 in
+    = c.skip_blanks.ensures.place ∙ ap (λ (text : List ℕ). behind_blanks (at 1 (chars text))) c.in-Ok.ensures.cases.0 in
     let read : statements_at (position c.skip_blanks.result) ≡ statements_of_text c.args.bytes.now
-      = ap statements_at start ∙ sym (good_text c.args.bytes.now c.if-bytes-gt-FILE_LIMIT.false c.in-Ok.ensures.cases.1) in
+    = ap statements_at start ∙ sym (good_text c.args.bytes.now c.if-bytes-gt-FILE_LIMIT.false c.in-Ok.ensures.cases.1) in
     subst (λ (r : Result (List Statement) ConfFault). Gives statements_of_items conf_fault c.lines.result r) read c.lines.ensures
 
 pub returns-in-Err : goal.returns-in-Err
@@ -28,4 +28,4 @@ returns-in-Err c =
     let bad = false_from_ne_true (is_utf8 c.args.bytes.now) (λ e. c.in-Err.ensures.cases.0 (IsUtf8-from_is_utf8 c.args.bytes.now e)) in
     not_text c.args.bytes.now c.if-bytes-gt-FILE_LIMIT.false bad
     ∙ ap (λ (line : ℕ). Err (fault_at kinds.NotText line))
-      (sym (c.bad_line-line.ensures ∙ ap (λ (n : ℕ). 1 + count_by is_newline (take n c.args.bytes.now)) (c.valid_up_to.ensures ∙ c.in-Err.ensures.valid_len)))
+    (sym (c.bad_line-line.ensures ∙ ap (λ (n : ℕ). 1 + count_by is_newline (take n c.args.bytes.now)) (c.valid_up_to.ensures ∙ c.in-Err.ensures.valid_len)))

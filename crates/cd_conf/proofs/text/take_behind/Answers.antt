@@ -21,7 +21,7 @@ returns-in_err-next-clause-fault c =
     let p = err_from_is_err_and c.from_residual-in_err-next.result c.from_residual-in_err-next.ensures.1 in
     rw (p.1, p.2)
     (end_fault (opens_in c.args.pile.now) c.args.line c.args.head (position c.args.place) c.in_ok-args.args c.as_slice.result.now (position c.in_ok-args.end)
-      (conf_fault c.in_err-next.field-0.0) c.in_ok-allows.ensures c.in_ok-args.ensures.value c.as_slice.ensures c.in_err-next.ensures.value)
+    (conf_fault c.in_err-next.field-0.0) c.in_ok-allows.ensures c.in_ok-args.ensures.value c.as_slice.ensures c.in_err-next.ensures.value)
 
 pub returns-clause-took : goal.returns-clause-took
 returns-clause-took c =

@@ -16,16 +16,16 @@ returns-in_err-arg-clause-value c =
     let p = err_from_is_err_and c.from_residual.result c.from_residual.ensures.1 in
     rw (p.1, p.2)
     (faults (λ (p : Position). length p.rest) value_at c.loop-args.args (position c.loop-args.place) (conf_fault c.in_err-arg.field-0.0) (values_at (position c.args.place))
-      c.loop-args.invariant.going c.in_err-arg.ensures.value)
+    c.loop-args.invariant.going c.in_err-arg.ensures.value)
 
 pub loop-args-preserved : goal.loop-args-preserved
 loop-args-preserved c =
     let later = rw c.in-Some.is at c.in_ok-arg.ensures.later in
     record {
       going = goes_on (λ (p : Position). length p.rest) value_at c.loop-args.args c.push.new.self (c.in-Some.arg ∷ []) (position c.loop-args.place) (position c.in-Some.behind)
-        (values_at (position c.args.place)) c.loop-args.invariant.going
-        (c.in_ok-arg.ensures.value ∙ ap (λ (found : Option (Arg × Place)). Ok (option_map seen_one found)) c.in-Some.is) later c.in_ok-push.ensures.ok;
-      later = omega (arith, later)
+          (values_at (position c.args.place)) c.loop-args.invariant.going
+          (c.in_ok-arg.ensures.value ∙ ap (λ (found : Option (Arg × Place)). Ok (option_map seen_one found)) c.in-Some.is) later c.in_ok-push.ensures.ok;
+      later = omega (arith, later);
     }
 
 pub returns-clause-value : goal.returns-clause-value

@@ -8,5 +8,5 @@ use Rattle.cd_conf.proofs.pile.Pile.put_end.Goals as goal
 pub returns : goal.returns
 returns c o os was =
     closes c.args.self.now.sections.items c.pop.new.self.items c.in-Some.section c.args.self.now.here c.replace-children.result c.replace-children.new.dest c.push.new.self _ o os
-      was c.in-Some.ensures.items c.replace-children.ensures.value c.replace-children.ensures.after c.in_ok-push.ensures.ok
-      (fold-roll-Item (List Statement) item_step _ ∙ section_is c.in-Some.section.key c.in-Some.section.args c.in-Some.section.line c.replace-children.result)
+    was c.in-Some.ensures.items c.replace-children.ensures.value c.replace-children.ensures.after c.in_ok-push.ensures.ok
+    (fold-roll-Item (List Statement) item_step _ ∙ section_is c.in-Some.section.key c.in-Some.section.args c.in-Some.section.line c.replace-children.result)
