@@ -1,6 +1,5 @@
 -- Keys and words, one character after the other.
-use Rattle.std.proofs.Common.{◌≡◌, ℕ, ◌<◌, ◌≤◌, length, arith, List, [], ◌∷◌, ◌++◌, Bool, true, false, refl, ap, sym, ◌∙◌, append_assoc, add_comm, add-one}
-use native.Mathlib.Numerals.{unary_clauses}
+use Rattle.std.proofs.Common.{◌≡◌, ℕ, ◌<◌, length, arith, List, [], ◌∷◌, ◌++◌, Bool, true, false, refl, ap, sym, ◌∙◌, append_assoc, add_comm, add-one}
 use Rattle.std.specs.Char.{encode_utf8}
 use Rattle.std.specs.List.{take_while, prefix_len}
 use Rattle.std.specs.Str.{encode_utf8_all}

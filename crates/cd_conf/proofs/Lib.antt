@@ -9,3 +9,4 @@ pub mod Skips
 pub mod Texts
 pub mod Decimals
 pub mod TextFaults
+pub mod PrintedQuotes

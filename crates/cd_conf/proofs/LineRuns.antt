@@ -1,5 +1,5 @@
 -- Lines, one after the other.
-use Rattle.std.proofs.Common.{◌≡◌, ℕ, suc, ◌+◌, ◌==◌, ◌<◌, List, [], ◌∷◌, ◌++◌, Bool, true, false, length, ◌≤◌, Result, Ok, Err, IsOk, IfOk, IfSome, Option, Some, None, refl, sym, ap, ◌∙◌, arith}
+use Rattle.std.proofs.Common.{◌≡◌, ℕ, suc, ◌==◌, ◌<◌, List, [], ◌∷◌, Bool, true, false, length, ◌≤◌, Result, Ok, Err, IsOk, IfOk, IfSome, Option, Some, None, if◌then◌else◌, refl, sym, ap, ◌∙◌, arith}
 use Rattle.cd_reading.specs.First.{◌>>=◌, unless}
 use Rattle.cd_reading.specs.Gives.{Gives, Refuses}
 use Rattle.cd_conf.specs.Characters.{after_run, front_run, may_stand}
@@ -82,7 +82,11 @@ failed p (Some f) h = ap (λ (r : Result (List Statement × Stand) ConfFault). r
 -- ---- what stands behind a head
 
 refuses_kind : {A : Type 0} (k : ConfKind) (f : ConfFault) (read : Result A ConfFault) → read ≡ Err f → Refuses (unless_memory k f) read
-refuses_kind kinds.Memory f read h = tt
+refuses_kind kinds.Memory f read h = by (f.line == 0)
+  where
+    by : (t : Bool) → Refuses (if t then None else Some f) read
+    by true = tt
+    by false = h
 refuses_kind _ f read h = h
 
 pub refuses : {A : Type 0} (f : ConfFault) (read : Result A ConfFault) → read ≡ Err f → Refuses (conf_fault f) read

@@ -3,7 +3,7 @@ use Rattle.std.proofs.Common.{◌≡◌, ℕ, List, [], ◌∷◌, ◌++◌, map
 use Rattle.std.proofs.lemmas.List.{append-nil, map_push, reverse-append}
 use Rattle.std.proofs.lemmas.List.Concat.{flat_map-append}
 use Rattle.std.specs.List.{flat_map}
-use Rattle.cd_conf.specs.Pile.{Reads, front_of, open_of}
+use Rattle.cd_conf.specs.Pile.{front_of, open_of}
 use Rattle.cd_conf.specs.Statements.{End, Open, StartOf, Statement}
 use Rattle.cd_conf.specs.Tree.{joined, statements_of, statements_of_items}
 use Rattle.cd_conf.specs.declared.item.Arg.{Arg}

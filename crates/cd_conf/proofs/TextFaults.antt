@@ -1,6 +1,5 @@
 -- No text has the fault of a source.
 use Rattle.std.proofs.Common.{◌≡◌, ◌==◌, ◌∷◌, [], ℕ, zero, suc, List, Bool, true, false, Result, Ok, Err, Option, Some, None, if◌then◌else◌, refl, sym, ap, subst, ◌∙◌, length}
-use Rattle.std.specs.List.{flat_map}
 use Rattle.std.specs.Str.{chars, is_utf8, str_eq_ignore_ascii_case}
 use Rattle.std.specs.Str.Parse.{starts_with_minus, without_leading_sign}
 use Rattle.std.specs.Prelude.{nat_le, nat_lt}
@@ -14,7 +13,7 @@ use Rattle.cd_conf.specs.Numbers.{Digits, digits_of, is_false_word, is_true_word
 use Rattle.cd_conf.specs.Position.{Position, at}
 use Rattle.cd_conf.specs.Quotes.{quoted_at}
 use Rattle.cd_conf.specs.Repeated.{go_on, in_front, repeated}
-use Rattle.cd_conf.specs.Statements.{Open, Stand, Statement, bad_line, close, close_here, closed, closed_by, head_at, line_at, line_behind, line_end, line_from, open_behind, stand, statement_at, statement_behind, statement_from, statements_at, statements_of_text, values_behind}
+use Rattle.cd_conf.specs.Statements.{Open, Stand, Statement, bad_line, close_here, closed, closed_by, head_at, line_at, line_behind, line_end, line_from, open_behind, stand, statement_behind, statement_from, statements_at, statements_of_text, values_behind}
 use Rattle.cd_conf.specs.Values.{quoted_arg, some_value, value_at, value_from, values_at, word_at}
 use Rattle.cd_conf.specs.declared.fault.ConfFault.{ConfFault}
 use Rattle.cd_conf.specs.declared.fault.ConfKind.{ConfKind}

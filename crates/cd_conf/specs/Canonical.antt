@@ -1,5 +1,5 @@
 -- The canonical text of items.
-use Rattle.std.specs.Prelude.{ℕ, suc, zero, ◌+◌, ◌/◌, ◌%◌, ◌^◌, ◌==◌, if◌then◌else◌, List, [], ◌∷◌, ◌++◌, codes, ℤ, pos, negsuc}
+use Rattle.std.specs.Prelude.{ℕ, suc, zero, ◌/◌, ◌%◌, ◌^◌, ◌==◌, if◌then◌else◌, List, [], ◌∷◌, ◌++◌, codes, ℤ, pos, negsuc}
 use Rattle.std.specs.Fmt.{decimal}
 use Rattle.std.specs.List.{flat_map}
 use Rattle.cd_text.specs.Quoting.{quoted_of}
@@ -61,7 +61,7 @@ abbrev pub text_step : Item-F (List ℕ → List ℕ) → List ℕ → List ℕ
 text_step i indent =
     if i.section
     then start_text indent i.key i.args ++ flat_map (λ child. child (deeper indent)) i.children
-      ++ end_text indent i.key
+    ++ end_text indent i.key
     else option_text indent i.key i.args
 
 abbrev pub item_text : Item → List ℕ → List ℕ

@@ -1,5 +1,5 @@
 -- Faults and their lines.
-use Rattle.std.specs.Prelude.{ℕ, Bool, true, false, Result, Ok, Err, Option, Some, None, if◌then◌else◌}
+use Rattle.std.specs.Prelude.{ℕ, ◌==◌, Bool, true, false, Result, Ok, Err, Option, Some, None, if◌then◌else◌}
 use Rattle.cd_conf.specs.declared.fault.ConfFault.{ConfFault}
 use Rattle.cd_conf.specs.declared.fault.ConfKind.{ConfKind}
 use Rattle.cd_conf.specs.declared.fault.ConfKind.TheVariants.{Memory, ReadFault, TooLong}
@@ -10,10 +10,10 @@ abbrev pub fault_at : ConfKind → ℕ → ConfFault
 fault_at kind line = record { kind = kind; line = line }
 
 abbrev pub unless_memory : ConfKind → ConfFault → Option ConfFault
-unless_memory Memory fault = None
+unless_memory Memory fault = if fault.line == 0 then None else Some fault
 unless_memory _ fault = Some fault
 
--- the fault of an error, and none for want of memory
+-- the fault of an error, and none for want of memory, which has the line 0
 abbrev pub conf_fault : ConfFault → Option ConfFault
 conf_fault fault = unless_memory fault.kind fault
 

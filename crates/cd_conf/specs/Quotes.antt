@@ -1,6 +1,7 @@
 -- Quoted strings.
-use Rattle.std.specs.Prelude.{ℕ, ◌+◌, ◌==◌, List, [], ◌∷◌, ◌++◌, Option, Some, None, if◌then◌else◌, encode_utf8}
-use Rattle.cd_conf.specs.Blanks.{is_blank, line_after}
+use Rattle.std.specs.Prelude.{ℕ, ◌==◌, List, [], ◌∷◌, ◌++◌, Bool, not, Option, Some, None, if◌then◌else◌, encode_utf8}
+use Rattle.cd_conf.specs.Blanks.{is_blank, is_newline, line_after}
+use Rattle.std.specs.List.{list_all}
 use Rattle.cd_conf.specs.Position.{Position, at}
 use Rattle.cd_conf.specs.declared.quotes.Quoting.{Quoting}
 use Rattle.cd_conf.specs.declared.quotes.Quoting.TheVariants.{Inside, Escaped, Joined}
@@ -45,3 +46,7 @@ quoted_from (c ∷ cs) quoting line =
 -- the quoted string whose opening quote stands before a position
 abbrev pub quoted_at : Position → Option (List ℕ × Position)
 quoted_at p = quoted_from p.rest Inside p.line
+
+-- no newline stands in a text, as in each that was read
+abbrev pub is_one_line : List ℕ → Bool
+is_one_line cs = list_all (λ c. not (is_newline c)) cs

@@ -1,5 +1,5 @@
 -- A step that is taken again and again.
-use Rattle.std.specs.Prelude.{ℕ, suc, zero, List, [], ◌++◌, Result, Ok, Err, Option, Some, None}
+use Rattle.std.specs.Prelude.{ℕ, suc, zero, List, [], ◌++◌, Result, Ok, Option, Some, None}
 use Rattle.cd_reading.specs.First.{◌>>=◌}
 
 -- what was given, and where it went on, with more in front

@@ -1,5 +1,5 @@
 -- The options, section starts and section ends of a text, and how sections nest.
-use Rattle.std.specs.Prelude.{ℕ, suc, ◌+◌, ◌==◌, List, [], ◌∷◌, length, take, count_by, Bool, nat_le, nat_lt, Result, Ok, Err, Option, Some, None, if◌then◌else◌}
+use Rattle.std.specs.Prelude.{ℕ, suc, ◌+◌, ◌==◌, List, [], ◌∷◌, length, take, count_by, nat_le, nat_lt, Result, Ok, Err, Option, Some, None, if◌then◌else◌}
 use Rattle.std.specs.Str.{chars, is_utf8, str_eq_ignore_ascii_case}
 use Rattle.std.specs.Str.Lossy.{utf8_valid_len}
 use Rattle.cd_reading.specs.First.{◌>>=◌, unless}

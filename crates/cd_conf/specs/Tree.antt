@@ -1,5 +1,5 @@
 -- The statements that a tree of items writes out.
-use Rattle.std.specs.Prelude.{ℕ, List, [], ◌∷◌, ◌++◌, Bool, if◌then◌else◌}
+use Rattle.std.specs.Prelude.{List, [], ◌∷◌, ◌++◌, if◌then◌else◌}
 use Rattle.std.specs.List.{flat_map}
 use Rattle.cd_conf.specs.Statements.{Statement, OptionOf, StartOf, End, Stray}
 use Rattle.cd_conf.specs.declared.item.Item.{Item}

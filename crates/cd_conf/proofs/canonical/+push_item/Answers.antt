@@ -1,4 +1,4 @@
-use Rattle.std.proofs.Common.{arith, ap, ◌∙◌, List, ℕ, ◌++◌, take, ◌≡◌, ◌≤◌, length, sym, subst}
+use Rattle.std.proofs.Common.{arith, ap, ◌∙◌, List, ◌++◌, take, ◌≡◌, ◌≤◌, length}
 use Rattle.std.specs.List.{flat_map}
 use Rattle.cd_conf.specs.declared.item.Item.{Item}
 use Rattle.cd_conf.specs.Parts.{children_of}

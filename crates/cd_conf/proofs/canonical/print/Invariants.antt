@@ -1,4 +1,4 @@
-use Rattle.std.proofs.Common.{◌≡◌, [], take}
+use Rattle.std.proofs.Common.{◌≡◌, take}
 use Rattle.cd_conf.specs.Canonical.{items_text}
 use Rattle.cd_conf.proofs.canonical.print.Given as goal
 

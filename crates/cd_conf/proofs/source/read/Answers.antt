@@ -1,4 +1,4 @@
-use Rattle.std.proofs.Common.{Err, ap, subst, sym}
+use Rattle.std.proofs.Common.{Err, ap}
 use Rattle.cd_conf.specs.Statements.{statements_of_text}
 use Rattle.cd_conf.specs.Tree.{statements_of_items}
 use Rattle.cd_io.specs.declared.source.ReadAllFault.{ReadAllFault}

@@ -7,7 +7,7 @@ use Rattle.cd_reading.specs.Gives.{Gives}
 use Rattle.cd_conf.specs.Blanks.{behind_blanks, is_newline}
 use Rattle.cd_conf.specs.Faults.{conf_fault, fault_at}
 use Rattle.cd_conf.specs.Place.{position}
-use Rattle.cd_conf.specs.Position.{Position, at}
+use Rattle.cd_conf.specs.Position.{at}
 use Rattle.cd_conf.specs.Statements.{Statement, statements_at, statements_of_text}
 use Rattle.cd_conf.specs.Tree.{statements_of_items}
 use Rattle.cd_conf.specs.declared.fault.ConfFault.{ConfFault}

@@ -1,4 +1,4 @@
-use Rattle.std.proofs.Common.{◌<◌, ◌≤◌, arith, sym, length}
+use Rattle.std.proofs.Common.{◌<◌, ◌≤◌, arith, sym}
 use Rattle.std.specs.Str.{chars}
 use Rattle.cd_conf.specs.Place.{characters_left}
 use Rattle.cd_conf.specs.declared.place.Place.{Place}

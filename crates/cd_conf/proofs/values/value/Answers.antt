@@ -1,4 +1,4 @@
-use Rattle.std.proofs.Common.{arith, ap, sym, ◌∙◌, length}
+use Rattle.std.proofs.Common.{arith, sym, ◌∙◌}
 use Rattle.std.specs.Str.{chars}
 use Rattle.cd_conf.specs.declared.runs.Kind.TheVariants.{Word}
 use Rattle.cd_conf.proofs.CharacterRuns.{run_shorter}

@@ -1,4 +1,4 @@
-use Rattle.std.proofs.Common.{ℕ, ◌≤◌, length}
+use Rattle.std.proofs.Common.{◌≤◌, length}
 use Rattle.cd_conf.specs.Place.{characters_left, position}
 use Rattle.cd_conf.specs.Position.{Position}
 use Rattle.cd_conf.specs.Values.{value_at, values_at}

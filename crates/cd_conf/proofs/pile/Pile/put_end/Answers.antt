@@ -1,4 +1,4 @@
-use Rattle.std.proofs.Common.{List, ◌∙◌, ap}
+use Rattle.std.proofs.Common.{List, ◌∙◌}
 use Rattle.cd_conf.specs.Statements.{Statement}
 use Rattle.cd_conf.specs.Tree.{item_step}
 use Rattle.cd_conf.specs.declared.item.Item.TheFolds.{fold-roll-Item}
