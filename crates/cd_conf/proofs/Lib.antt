@@ -9,4 +9,6 @@ pub mod Skips
 pub mod Texts
 pub mod Decimals
 pub mod TextFaults
+pub mod PrintedNumbers
 pub mod PrintedQuotes
+pub mod PrintedValues

@@ -52,6 +52,10 @@ scalars_escaped (c ∷ cs) good =
     let both = and_parts (scalar c) (scalars cs) good in
     scalars_one (c == 34 || c == 92) c (flat_map escaped cs) (34 ∷ []) both.0 (scalars_escaped cs both.1)
 
+pub quoted_utf8 : (t : List ℕ) → IsUtf8 t → IsUtf8 (quoted_of t)
+unfolding quoted_of
+quoted_utf8 t utf8 = (34 ∷ (flat_map escaped (chars t) ++ 34 ∷ []), (scalars_escaped (chars t) (scalars-chars t utf8), refl))
+
 pub chars_quoted : (t : List ℕ) → IsUtf8 t → chars (quoted_of t) ≡ 34 ∷ (flat_map escaped (chars t) ++ 34 ∷ [])
 unfolding quoted_of
 chars_quoted t utf8 = chars-encodes (34 ∷ (flat_map escaped (chars t) ++ 34 ∷ [])) (scalars_escaped (chars t) (scalars-chars t utf8))
