@@ -9,6 +9,7 @@ pub mod Skips
 pub mod Texts
 pub mod Decimals
 pub mod TextFaults
+pub mod PrintedItems
 pub mod PrintedNumbers
 pub mod PrintedQuotes
 pub mod PrintedValues
