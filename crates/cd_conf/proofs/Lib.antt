@@ -10,6 +10,8 @@ pub mod Texts
 pub mod Decimals
 pub mod TextFaults
 pub mod PrintedItems
+pub mod PrintedLines
 pub mod PrintedNumbers
 pub mod PrintedQuotes
+pub mod PrintedTexts
 pub mod PrintedValues

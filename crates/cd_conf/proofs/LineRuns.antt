@@ -132,6 +132,12 @@ valued : (opens further : List Open) (line : ℕ) (head : Head) (p : Position) (
     → values_behind head.kind p ≡ Ok (args, end) → statement_behind opens line head p ≡ said_by line head further args (line_behind head.kind line args end)
 valued opens further line head p args end o v = nested opens further line head p o ∙ ap (ended_by line head further) v
 
+-- what is said behind a head
+pub spoken : (opens further : List Open) (line : ℕ) (head : Head) (p : Position) (args : List Arg) (end next : Position) → open_behind opens line head.kind head.key ≡ Ok further
+    → values_behind head.kind p ≡ Ok (args, end) → line_behind head.kind line args end ≡ Ok next
+    → statement_behind opens line head p ≡ Ok (Some (statement_of head.kind head.key args line ∷ [], stand further next))
+spoken opens further line head p args end next o v e = valued opens further line head p args end o v ∙ ap (said_by line head further args) e
+
 pub end_fault : (opens : List Open) (line : ℕ) (head : Head) (p : Position) (args now : List Arg) (end : Position) (f : Option ConfFault) → IsOk (open_behind opens line head.kind head.key)
     → values_behind head.kind p ≡ Ok (args, end) → now ≡ args → Refuses f (line_behind head.kind line now end) → Refuses f (statement_behind opens line head p)
 end_fault opens line head p args now end None o v n h = tt

@@ -9,6 +9,7 @@ pub mod Pile
 pub mod Place
 pub mod Position
 pub mod Quotes
+pub mod ReadAgain
 pub mod Repeated
 pub mod Seen
 pub mod Statements
