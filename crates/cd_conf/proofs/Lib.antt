@@ -15,3 +15,4 @@ pub mod PrintedNumbers
 pub mod PrintedQuotes
 pub mod PrintedTexts
 pub mod PrintedValues
+pub mod ReadParts
