@@ -16,3 +16,4 @@ pub mod PrintedQuotes
 pub mod PrintedTexts
 pub mod PrintedValues
 pub mod ReadParts
+pub mod ReadStatements

@@ -83,7 +83,7 @@ written_utf8 (Stray ∷ more) keys h = absurd h
 abbrev pub keys_of : List Open → List (List ℕ)
 keys_of opens = map (λ o. o.key) opens
 
-as_many : (opens : List Open) → length (keys_of opens) ≡ length opens
+pub as_many : (opens : List Open) → length (keys_of opens) ≡ length opens
 as_many [] = refl
 as_many (o ∷ opens) = ap suc (as_many opens)
 
