@@ -8,13 +8,13 @@ use Rattle.std.proofs.lemmas.Bool.{and_parts, leb-false, ltb-true}
 use Rattle.std.proofs.lemmas.Str.{IsUtf8-from_is_utf8, encodes-IsAscii, scalars-chars}
 use Rattle.cd_reading.specs.First.{◌>>=◌, unless}
 use Rattle.cd_conf.specs.Blanks.{after_blanks, behind_blanks, is_line_end, is_newline, line_behind_newline, next_line, skip_while}
-use Rattle.cd_conf.specs.Canonical.{items_text}
+use Rattle.cd_conf.specs.Canonical.{end_text, items_text, option_text, start_text}
 use Rattle.cd_conf.specs.Characters.{after_run, front_run, is_in_key, may_stand}
 use Rattle.cd_conf.specs.Faults.{fault_at}
 use Rattle.cd_conf.specs.Position.{Position, at}
-use Rattle.cd_conf.specs.ReadAgain.{PrintIsReadAgain, numbered}
+use Rattle.cd_conf.specs.ReadAgain.{PrintIsOneForm, PrintIsReadAgain, numbered}
 use Rattle.cd_conf.specs.Repeated.{go_on, in_front, repeated}
-use Rattle.cd_conf.specs.Statements.{End, Open, OptionOf, Stand, StartOf, Statement, bad_line, behind_close, close_here, closed, closed_by, head_at, head_from, keyed, line_at, line_behind, line_end, line_from, open_behind, section_head, stand, statement_at, statement_behind, statement_from, statement_of, statements_at, statements_of_text, values_behind}
+use Rattle.cd_conf.specs.Statements.{End, Open, OptionOf, Stand, StartOf, Statement, Stray, bad_line, behind_close, close_here, closed, closed_by, head_at, head_from, keyed, line_at, line_behind, line_end, line_from, open_behind, section_head, stand, statement_at, statement_behind, statement_from, statement_of, statements_at, statements_of_text, values_behind}
 use Rattle.cd_conf.specs.Tree.{statements_of_items}
 use Rattle.cd_conf.specs.Values.{values_at}
 use Rattle.cd_conf.specs.declared.fault.ConfFault.{ConfFault}
@@ -26,7 +26,7 @@ use Rattle.cd_conf.specs.declared.item.Arg.{Arg}
 use Rattle.cd_conf.specs.declared.item.Item.{Item}
 use Rattle.cd_conf.specs.declared.limits.TheConstants.{FILE_LIMIT, NESTING_LIMIT}
 use Rattle.cd_conf.specs.declared.runs.Kind.TheVariants.{Key}
-use Rattle.cd_conf.proofs.PrintedItems.{items_are_written, written}
+use Rattle.cd_conf.proofs.PrintedItems.{indent_in, items_are_written, written}
 use Rattle.cd_conf.proofs.PrintedLines.{IsKey, key_ascii}
 use Rattle.cd_conf.proofs.PrintedTexts.{AreReadable, as_many, keys_of, written_reads}
 use Rattle.cd_conf.proofs.PrintedValues.{AllReadable}
@@ -252,3 +252,17 @@ print_reads bytes items e short =
     let statements : List Statement = statements_of_items items in
     let text = items_are_written items in
     ap statements_of_text text ∙ written_reads statements (text_good bytes statements e) (subst (λ (t : List ℕ). length t ≤ FILE_LIMIT) text short)
+
+-- no line of a printed text tells the line of its statement
+no_line_tells : (statements : List Statement) (keys : List (List ℕ)) (line : ℕ) → written keys (numbered line statements) ≡ written keys statements
+unfolding written
+no_line_tells [] keys line = refl
+no_line_tells (OptionOf key args l ∷ more) keys line = ap (λ (xs : List ℕ). option_text (indent_in keys) key args ++ xs) (no_line_tells more keys (line + 1))
+no_line_tells (StartOf key args l ∷ more) keys line = ap (λ (xs : List ℕ). start_text (indent_in keys) key args ++ xs) (no_line_tells more (key ∷ keys) (line + 1))
+no_line_tells (End ∷ more) [] line = no_line_tells more [] (line + 1)
+no_line_tells (End ∷ more) (key ∷ keys) line = ap (λ (xs : List ℕ). end_text (indent_in keys) key ++ xs) (no_line_tells more keys (line + 1))
+no_line_tells (Stray ∷ more) keys line = no_line_tells more keys line
+
+pub print_is_one : PrintIsOneForm
+print_is_one line items again e =
+    items_are_written again ∙ ap (written []) e ∙ no_line_tells (statements_of_items items) [] line ∙ sym (items_are_written items)

@@ -21,3 +21,9 @@ PrintIsReadAgain =
     (bytes : List ℕ) (items : List Item) → statements_of_text bytes ≡ Ok (statements_of_items items) →
     length (items_text items) ≤ FILE_LIMIT →
     statements_of_text (items_text items) ≡ Ok (numbered 1 (statements_of_items items))
+
+-- items that differ in lines alone have one canonical text
+abbrev pub PrintIsOneForm : Type 0
+PrintIsOneForm =
+    (line : ℕ) (items again : List Item) → statements_of_items again ≡ numbered line (statements_of_items items) →
+    items_text again ≡ items_text items
