@@ -1,21 +1,19 @@
 -- The lines that are printed are read as what they say.
-use Rattle.std.proofs.Common.{◌≡◌, ℕ, suc, ◌+◌, ◌<◌, ◌≤◌, ◌==◌, ◌&&◌, ◌||◌, List, [], ◌∷◌, ◌++◌, length, Bool, true, false, Option, Some, None, Result, Ok, Err, if◌then◌else◌, refl, sym, ap, subst, ◌∙◌, append_assoc, arith, length-append, map}
-use Rattle.std.specs.Prelude.{nat_eq, nat_le, nat_lt}
+use Rattle.std.proofs.Common.{◌≡◌, ℕ, ◌+◌, ◌<◌, ◌==◌, ◌||◌, List, [], ◌∷◌, ◌++◌, length, Bool, true, false, Some, Ok, Err, if◌then◌else◌, refl, ap, ◌∙◌, append_assoc, arith, length-append}
+use Rattle.std.specs.Prelude.{nat_le}
 use Rattle.std.specs.List.{flat_map, list_all}
-use Rattle.std.specs.Str.{IsAscii, IsUtf8, bytes_eq, chars, encode_utf8_all, str_eq_ignore_ascii_case, str_to_ascii_lowercase}
+use Rattle.std.specs.Str.{IsAscii, bytes_eq, chars, str_to_ascii_lowercase}
 use Rattle.std.proofs.lemmas.Bool.{and_parts, eq-eqb, eqb-true, lt-ltb, lt-leb}
 use Rattle.std.proofs.lemmas.Bool.Decides.{nat_tests}
 use Rattle.std.proofs.lemmas.List.Folds.{list_all-append}
-use Rattle.std.proofs.lemmas.Str.{IsUtf8-append, IsUtf8-from_ascii, chars-IsAscii, chars-append, encodes-IsAscii}
+use Rattle.std.proofs.lemmas.Str.{IsUtf8-from_ascii, chars-IsAscii, chars-append, encodes-IsAscii}
 use Rattle.std.proofs.lemmas.Str.Ascii.{IsAscii-cons, IsAscii-nil}
-use Rattle.cd_reading.specs.First.{◌>>=◌}
-use Rattle.cd_conf.specs.Blanks.{after_blanks, behind_blanks, is_blank, is_line_end, next_line, skip_while}
-use Rattle.cd_conf.specs.Canonical.{deeper, end_text, option_text, spaced, start_text}
-use Rattle.cd_conf.specs.Characters.{after_run, front_run, is_in_key, may_stand}
+use Rattle.cd_conf.specs.Blanks.{after_blanks, behind_blanks, is_blank, next_line, skip_while}
+use Rattle.cd_conf.specs.Canonical.{end_text, option_text, spaced, start_text}
+use Rattle.cd_conf.specs.Characters.{after_run, is_in_key}
 use Rattle.cd_conf.specs.Faults.{fault_at}
 use Rattle.cd_conf.specs.Position.{Position, at}
-use Rattle.cd_conf.specs.Statements.{End, Open, OptionOf, Stand, StartOf, Statement, head_at, head_from, keyed, line_at, line_behind, line_end, open_behind, section_head, stand, statement_at, statement_behind, statement_from, values_behind}
-use Rattle.cd_conf.specs.declared.fault.ConfFault.{ConfFault}
+use Rattle.cd_conf.specs.Statements.{End, Open, OptionOf, Stand, StartOf, Statement, head_at, head_from, keyed, line_at, line_behind, line_end, open_behind, section_head, stand, statement_at, statement_behind, statement_from}
 use Rattle.cd_conf.specs.declared.fault.ConfKind.TheVariants.{TooDeep, WrongEnd}
 use Rattle.cd_conf.specs.declared.head.Head.{Head}
 use Rattle.cd_conf.specs.declared.head.LineKind.{LineKind}

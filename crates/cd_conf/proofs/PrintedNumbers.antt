@@ -1,17 +1,15 @@
 -- A number that is printed is read as itself.
-use Rattle.std.proofs.Common.{◌≡◌, ℕ, zero, suc, ◌+◌, ◌-◌, ◌*◌, ◌/◌, ◌%◌, ◌^◌, ◌<◌, ◌≤◌, ◌==◌, ◌&&◌, ◌||◌, List, [], ◌∷◌, ◌++◌, length, drop, take, length-append, Bool, true, false, Option, Some, None, Result, Ok, if◌then◌else◌, cond, subst, refl, sym, ap, ◌∙◌, arith, ℤ, pos}
-use Rattle.std.specs.Prelude.{nat_le, nat_lt, nat_eq, nat_abs, negsuc, slice_index, codes, unwrap_or}
-use Rattle.std.specs.Char.{digit_value, is_digit, to_ascii_lowercase}
+use Rattle.std.proofs.Common.{◌≡◌, ℕ, zero, suc, ◌+◌, ◌-◌, ◌*◌, ◌/◌, ◌%◌, ◌^◌, ◌<◌, ◌≤◌, ◌==◌, ◌&&◌, ◌||◌, List, [], ◌∷◌, ◌++◌, length, take, length-append, Bool, true, false, Some, None, Ok, subst, refl, sym, ap, ◌∙◌, arith, ℤ, pos}
+use Rattle.std.specs.Prelude.{nat_lt, nat_abs, negsuc, slice_index}
+use Rattle.std.specs.Char.{digit_value, is_digit}
 use Rattle.std.specs.Fmt.{decimal}
 use Rattle.std.specs.Int.{IsInRange}
 use Rattle.std.specs.List.{list_all, list_any, position, position_or_len, before_first}
-use Rattle.std.specs.Str.{str_eq_ignore_ascii_case}
 use Rattle.std.specs.Str.Parse.{AllDigits, IsNumeral, digits_value, digits_value_after, starts_with_minus, without_leading_sign}
-use Rattle.std.proofs.Math.Nat.{div-lt_iff_lt-mul, one-le-pow, mul-one}
+use Rattle.std.proofs.Math.Nat.{div-lt_iff_lt-mul, one-le-pow}
 use Rattle.std.proofs.Math.Seq.{take-append_seam, drop-append-add, take-length}
-use Rattle.std.proofs.Math.Numerals.{add-one}
 use Rattle.std.proofs.lemmas.Nat.{pow-add}
-use Rattle.std.proofs.lemmas.Bool.{and_from, and_parts, and_left, and_right, both_ways, eqb-true, le-leb, le-ltb, lt-ltb, ltb-false, ltb-true, ne_eqb, or_from, or_right}
+use Rattle.std.proofs.lemmas.Bool.{and_from, and_parts, and_left, and_right, both_ways, eqb-true, le-leb, le-ltb, lt-ltb, ltb-false, ltb-true, ne_eqb, or_right}
 use Rattle.std.proofs.lemmas.List.{append-nil}
 use Rattle.std.proofs.lemmas.List.Folds.{list_all-append}
 use Rattle.std.proofs.lemmas.Fmt.{decimal_is_IsNumeral_wide, decimal_digit, first_decimal}
@@ -22,9 +20,7 @@ use Rattle.cd_value.proofs.Cuts.{place_behind, place_none}
 use Rattle.cd_text.specs.Digits.{after_place, is_dot}
 use Rattle.cd_conf.specs.Canonical.{decimals, fraction_text, number_text, unsigned_text}
 use Rattle.cd_conf.specs.Characters.{is_in_word}
-use Rattle.cd_conf.specs.Numbers.{Digits, all_digits, are_digits, at_most, decimal_digits, digits, digits_of, fraction, is_decimal, is_false_word, is_fraction, is_hexadecimal, is_octal, is_true_word, is_whole, is_word, magnitude, millionths, millionths_limit, number_arg, plain_arg, with_sign, word_arg}
-use Rattle.cd_conf.specs.declared.fault.ConfFault.{ConfFault}
-use Rattle.cd_conf.specs.declared.item.Arg.{Arg}
+use Rattle.cd_conf.specs.Numbers.{Digits, all_digits, are_digits, at_most, decimal_digits, digits, digits_of, fraction, is_false_word, is_hexadecimal, is_octal, is_true_word, is_whole, magnitude, millionths, millionths_limit, number_arg, plain_arg, with_sign, word_arg}
 use Rattle.cd_conf.specs.declared.item.Arg.TheVariants.{Number}
 
 -- ---- decimals

@@ -1,17 +1,15 @@
 -- The text that is printed of statements is read as them.
-use Rattle.std.proofs.Common.{◌≡◌, ℕ, suc, ◌+◌, ◌<◌, ◌≤◌, List, [], ◌∷◌, ◌++◌, length, map, Result, Ok, Option, Some, None, refl, sym, ap, subst, ◌∙◌, append_assoc, arith}
+use Rattle.std.proofs.Common.{◌≡◌, ℕ, suc, ◌+◌, ◌<◌, ◌≤◌, List, [], ◌∷◌, ◌++◌, length, map, Result, Ok, None, refl, sym, ap, subst, ◌∙◌, append_assoc, arith}
 use Rattle.std.specs.List.{flat_map}
-use Rattle.std.specs.Str.{IsAscii, IsUtf8, chars}
+use Rattle.std.specs.Str.{IsUtf8, chars}
 use Rattle.std.proofs.lemmas.List.{append-nil}
 use Rattle.std.proofs.lemmas.Str.{IsUtf8-append, IsUtf8-from_ascii, IsUtf8-nil, chars-nil}
 use Rattle.std.proofs.lemmas.Str.Ascii.{IsAscii-cons, IsAscii-nil}
-use Rattle.cd_reading.specs.First.{◌>>=◌}
 use Rattle.cd_conf.specs.Blanks.{after_blanks, behind_blanks}
 use Rattle.cd_conf.specs.Canonical.{end_text, option_text, spaced, start_text}
 use Rattle.cd_conf.specs.Position.{Position, at}
 use Rattle.cd_conf.specs.ReadAgain.{numbered}
-use Rattle.cd_conf.specs.Repeated.{repeated}
-use Rattle.cd_conf.specs.Statements.{End, Open, OptionOf, Stand, StartOf, Statement, Stray, closed, line_at, stand, statements_at, statements_of_text}
+use Rattle.cd_conf.specs.Statements.{End, Open, OptionOf, Stand, StartOf, Statement, Stray, line_at, stand, statements_of_text}
 use Rattle.cd_conf.specs.declared.fault.ConfFault.{ConfFault}
 use Rattle.cd_conf.specs.declared.item.Arg.{Arg}
 use Rattle.cd_conf.specs.declared.limits.TheConstants.{FILE_LIMIT, NESTING_LIMIT}

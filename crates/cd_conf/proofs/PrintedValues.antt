@@ -1,31 +1,29 @@
 -- The values that are printed behind a key are read as themselves.
-use Rattle.std.proofs.Common.{◌≡◌, ℕ, ◌<◌, ◌≤◌, ◌/◌, ◌%◌, ◌^◌, ◌==◌, ◌&&◌, ◌||◌, List, [], ◌∷◌, ◌++◌, length, Bool, true, false, Option, Some, None, Result, Ok, if◌then◌else◌, refl, sym, ap, subst, ◌∙◌, append_assoc, arith, length-append, ℤ, pos}
-use Rattle.std.specs.Prelude.{nat_abs, negsuc, suc, not, codes}
+use Rattle.std.proofs.Common.{◌≡◌, ℕ, ◌<◌, ◌≤◌, ◌==◌, ◌||◌, List, [], ◌∷◌, ◌++◌, length, Bool, true, false, Some, None, Result, Ok, if◌then◌else◌, refl, sym, ap, subst, ◌∙◌, append_assoc, arith, length-append}
+use Rattle.std.specs.Prelude.{nat_abs, suc, not, codes}
 use Rattle.std.specs.Char.{encode_utf8}
-use Rattle.std.specs.Fmt.{decimal}
 use Rattle.std.specs.List.{flat_map, list_all}
 use Rattle.std.specs.Str.{IsAscii, IsUtf8, chars, encode_utf8_all}
-use Rattle.std.proofs.lemmas.Bool.{and_parts, both_ways, false_from_ne_true, ne_eqb, not-true, not_from_false, or_parts}
+use Rattle.std.proofs.lemmas.Bool.{and_parts, both_ways, ne_eqb, not-true, not_from_false, or_parts}
 use Rattle.std.proofs.lemmas.Bool.Decides.{nat_tests}
 use Rattle.std.proofs.lemmas.List.{append-nil}
-use Rattle.std.proofs.lemmas.List.Folds.{list_all-append}
-use Rattle.std.proofs.lemmas.Str.{IsUtf8-append, IsUtf8-from_ascii, IsUtf8-nil, chars-IsAscii, chars-append, chars-nil, encodes-IsAscii, scalars-chars}
+use Rattle.std.proofs.lemmas.Str.{IsUtf8-append, IsUtf8-from_ascii, IsUtf8-nil, chars-IsAscii, chars-append, chars-nil, encodes-IsAscii}
 use Rattle.std.proofs.lemmas.Str.Ascii.{IsAscii-cons, IsAscii-nil}
-use Rattle.cd_text.specs.Quoting.{escaped, quoted_of}
+use Rattle.cd_text.specs.Quoting.{escaped}
 use Rattle.cd_reading.specs.First.{◌>>=◌}
 use Rattle.cd_conf.specs.Blanks.{after_blanks, behind_blanks, is_blank}
-use Rattle.cd_conf.specs.Canonical.{number_text, spaced, unsigned_text, value_text}
+use Rattle.cd_conf.specs.Canonical.{number_text, spaced, value_text}
 use Rattle.cd_conf.specs.Characters.{after_run, front_run, is_in_word, may_stand}
 use Rattle.cd_conf.specs.Numbers.{millionths_limit, word_arg}
 use Rattle.cd_conf.specs.Position.{Position, at}
 use Rattle.cd_conf.specs.Quotes.{is_one_line, quoted_at}
 use Rattle.cd_conf.specs.Repeated.{repeated}
-use Rattle.cd_conf.specs.Values.{quoted_arg, some_value, value_at, value_from, values_at, word_at}
+use Rattle.cd_conf.specs.Values.{quoted_arg, some_value, value_at, values_at, word_at}
 use Rattle.cd_conf.specs.declared.fault.ConfFault.{ConfFault}
 use Rattle.cd_conf.specs.declared.item.Arg.{Arg}
 use Rattle.cd_conf.specs.declared.item.Arg.TheVariants.{Words, Number, Flag}
 use Rattle.cd_conf.specs.declared.runs.Kind.{Kind}
-use Rattle.cd_conf.specs.declared.runs.Kind.TheVariants.{Key, Word}
+use Rattle.cd_conf.specs.declared.runs.Kind.TheVariants.{Word}
 use Rattle.cd_conf.proofs.BlankRuns.{blanks_shrink, no_blank, past_blank}
 use Rattle.cd_conf.proofs.CharacterRuns.{after_end, after_more, after_none, front_more, front_none}
 use Rattle.cd_conf.proofs.PrintedNumbers.{number_in_word, number_reads}
@@ -206,7 +204,7 @@ values_go (arg ∷ args) front line c cs total h e going =
     ∙ ap (after_blanks line) text ∙ no_blanks_here line v.0 (v.1 ++ rest) v.3 ∙ ap (at line) (sym text) in
     let now = subst (λ (p : Position). Going size value_at front p total) here going in
     let next = goes_on size value_at front (front ++ arg ∷ []) (arg ∷ []) (at line (chars (value_text arg) ++ rest)) (behind_blanks (at line rest)) total now
-        (value_reads arg line rest h.0 (no_word_behind args c cs h.1 e)) (shorter arg line rest h.0) refl in
+    (value_reads arg line rest h.0 (no_word_behind args c cs h.1 e)) (shorter arg line rest h.0) refl in
     values_go args (front ++ arg ∷ []) line c cs total h.1 e next ∙ ap (λ (xs : List Arg). Ok (xs, at line (c ∷ cs))) (append_assoc front (arg ∷ []) args)
 
 -- values that are printed are read as themselves, up to a character that ends them

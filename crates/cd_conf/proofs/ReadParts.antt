@@ -1,22 +1,21 @@
 -- What is true of the statements that were read.
-use Rattle.std.proofs.Common.{◌≡◌, ℕ, zero, suc, ◌+◌, ◌<◌, ◌≤◌, ◌==◌, ◌&&◌, ◌||◌, List, [], ◌∷◌, ◌++◌, length, Bool, true, false, Option, Some, None, Result, Ok, Err, if◌then◌else◌, refl, sym, ap, subst, ◌∙◌, append_assoc, arith, ℤ, pos}
-use Rattle.std.specs.Prelude.{nat_abs, nat_le, nat_lt, not}
+use Rattle.std.proofs.Common.{◌≡◌, ℕ, zero, suc, ◌+◌, ◌≤◌, ◌==◌, ◌&&◌, List, [], ◌∷◌, ◌++◌, length, Bool, true, false, Option, Some, None, Result, Ok, Err, if◌then◌else◌, refl, sym, ap, subst, ◌∙◌, arith}
+use Rattle.std.specs.Prelude.{nat_abs, nat_le, not}
 use Rattle.std.specs.Char.{encode_utf8}
 use Rattle.std.specs.List.{list_all}
-use Rattle.std.specs.Str.{IsUtf8, chars, encode_utf8_all, is_utf8, str_eq_ignore_ascii_case}
+use Rattle.std.specs.Str.{chars, encode_utf8_all}
 use Rattle.std.specs.Str.Parse.{starts_with_minus, without_leading_sign}
 use Rattle.std.proofs.Math.Utf8.{scalar, scalars}
-use Rattle.std.proofs.lemmas.Bool.{and_from, and_parts, both_ways, eqb-true, leb-false, ltb-true, ne_eqb, not_from_false}
-use Rattle.std.proofs.lemmas.Str.{IsUtf8-from_ascii, IsUtf8-from_is_utf8, chars-IsAscii, chars-encodes, encodes-IsAscii, scalars-chars}
-use Rattle.cd_reading.specs.First.{◌>>=◌, unless}
-use Rattle.cd_conf.specs.Blanks.{after_blanks, behind_blanks, is_blank, is_line_end, is_newline, line_after, line_behind_newline, next_line, skip_while}
-use Rattle.cd_conf.specs.Characters.{after_run, front_run, is_in_key, is_in_word, may_stand}
-use Rattle.cd_conf.specs.Faults.{fault_at}
+use Rattle.std.proofs.lemmas.Bool.{and_from, and_parts, ne_eqb, not_from_false}
+use Rattle.std.proofs.lemmas.Str.{IsUtf8-from_ascii, chars-IsAscii, chars-encodes, encodes-IsAscii}
+use Rattle.cd_reading.specs.First.{◌>>=◌}
+use Rattle.cd_conf.specs.Blanks.{after_blanks, behind_blanks, is_blank, is_newline, line_after, skip_while}
+use Rattle.cd_conf.specs.Characters.{after_run, front_run, is_in_word, may_stand}
 use Rattle.cd_conf.specs.Numbers.{Digits, at_most, digits_of, is_false_word, is_true_word, magnitude, millionths, millionths_limit, number_arg, plain_arg, with_sign, word_arg}
 use Rattle.cd_conf.specs.Position.{Position, at}
 use Rattle.cd_conf.specs.Quotes.{by_role, is_one_line, quoted_at, quoted_from, role_of, with_text}
-use Rattle.cd_conf.specs.Repeated.{go_on, in_front, repeated}
-use Rattle.cd_conf.specs.Values.{quoted_arg, some_value, value_at, value_from, values_at, word_at}
+use Rattle.cd_conf.specs.Repeated.{go_on, repeated}
+use Rattle.cd_conf.specs.Values.{quoted_arg, some_value, value_at, value_from, word_at}
 use Rattle.cd_conf.specs.declared.fault.ConfFault.{ConfFault}
 use Rattle.cd_conf.specs.declared.item.Arg.{Arg}
 use Rattle.cd_conf.specs.declared.item.Arg.TheVariants.{Words, Number, Flag}
@@ -26,7 +25,7 @@ use Rattle.cd_conf.specs.declared.quotes.Quoting.TheVariants.{Inside, Escaped, J
 use Rattle.cd_conf.specs.declared.quotes.Role.{Role}
 use Rattle.cd_conf.specs.declared.quotes.Role.TheVariants.{Break, Close, Letter, Mark}
 use Rattle.cd_conf.specs.declared.runs.Kind.{Kind}
-use Rattle.cd_conf.specs.declared.runs.Kind.TheVariants.{Key, Word}
+use Rattle.cd_conf.specs.declared.runs.Kind.TheVariants.{Word}
 use Rattle.cd_conf.proofs.CharacterRuns.{front_more, front_none}
 use Rattle.cd_conf.proofs.Magnitudes.{within}
 use Rattle.cd_conf.proofs.PrintedValues.{AllReadable, IsReadable, passes_apart, word_is_ascii}

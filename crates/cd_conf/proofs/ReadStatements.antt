@@ -1,29 +1,28 @@
 -- The statements that were read can be read again.
-use Rattle.std.proofs.Common.{◌≡◌, ℕ, zero, suc, ◌+◌, ◌<◌, ◌≤◌, ◌==◌, ◌&&◌, ◌||◌, List, [], ◌∷◌, ◌++◌, length, Bool, true, false, Option, Some, None, Result, Ok, Err, if◌then◌else◌, refl, sym, ap, subst, ◌∙◌, append_assoc, arith}
+use Rattle.std.proofs.Common.{◌≡◌, ℕ, zero, suc, ◌+◌, ◌<◌, ◌≤◌, ◌==◌, List, [], ◌∷◌, ◌++◌, length, Bool, true, false, Option, Some, None, Result, Ok, Err, if◌then◌else◌, refl, sym, ap, subst, ◌∙◌, arith}
 use Rattle.std.specs.Prelude.{nat_le, nat_lt, not}
 use Rattle.std.specs.List.{list_all}
-use Rattle.std.specs.Str.{IsUtf8, chars, encode_utf8_all, is_utf8, str_eq_ignore_ascii_case}
+use Rattle.std.specs.Str.{chars, is_utf8, str_eq_ignore_ascii_case}
 use Rattle.std.proofs.Math.Utf8.{scalar, scalars}
 use Rattle.std.proofs.lemmas.Bool.{and_parts, leb-false, ltb-true}
 use Rattle.std.proofs.lemmas.Str.{IsUtf8-from_is_utf8, encodes-IsAscii, scalars-chars}
-use Rattle.cd_reading.specs.First.{◌>>=◌, unless}
-use Rattle.cd_conf.specs.Blanks.{after_blanks, behind_blanks, is_line_end, is_newline, line_behind_newline, next_line, skip_while}
-use Rattle.cd_conf.specs.Canonical.{end_text, items_text, option_text, start_text}
+use Rattle.cd_reading.specs.First.{unless}
+use Rattle.cd_conf.specs.Blanks.{behind_blanks, is_line_end, is_newline, line_behind_newline, next_line, skip_while}
+use Rattle.cd_conf.specs.Canonical.{end_text, option_text, start_text}
 use Rattle.cd_conf.specs.Characters.{after_run, front_run, is_in_key, may_stand}
 use Rattle.cd_conf.specs.Faults.{fault_at}
 use Rattle.cd_conf.specs.Position.{Position, at}
 use Rattle.cd_conf.specs.ReadAgain.{PrintIsOneForm, PrintIsReadAgain, numbered}
-use Rattle.cd_conf.specs.Repeated.{go_on, in_front, repeated}
+use Rattle.cd_conf.specs.Repeated.{go_on, repeated}
 use Rattle.cd_conf.specs.Statements.{End, Open, OptionOf, Stand, StartOf, Statement, Stray, bad_line, behind_close, close_here, closed, closed_by, head_at, head_from, keyed, line_at, line_behind, line_end, line_from, open_behind, section_head, stand, statement_at, statement_behind, statement_from, statement_of, statements_at, statements_of_text, values_behind}
 use Rattle.cd_conf.specs.Tree.{statements_of_items}
 use Rattle.cd_conf.specs.Values.{values_at}
 use Rattle.cd_conf.specs.declared.fault.ConfFault.{ConfFault}
-use Rattle.cd_conf.specs.declared.fault.ConfKind.TheVariants.{BadKey, BadValue, NotText, TooDeep, TooLong, WrongEnd}
+use Rattle.cd_conf.specs.declared.fault.ConfKind.TheVariants.{BadValue, NotText, TooDeep, TooLong, WrongEnd}
 use Rattle.cd_conf.specs.declared.head.Head.{Head}
 use Rattle.cd_conf.specs.declared.head.LineKind.{LineKind}
 use Rattle.cd_conf.specs.declared.head.LineKind.TheVariants.{OptionLine, SectionEnd, SectionStart}
 use Rattle.cd_conf.specs.declared.item.Arg.{Arg}
-use Rattle.cd_conf.specs.declared.item.Item.{Item}
 use Rattle.cd_conf.specs.declared.limits.TheConstants.{FILE_LIMIT, NESTING_LIMIT}
 use Rattle.cd_conf.specs.declared.runs.Kind.TheVariants.{Key}
 use Rattle.cd_conf.proofs.PrintedItems.{indent_in, items_are_written, written}
@@ -235,7 +234,7 @@ pub text_good : (bytes : List ℕ) (statements : List Statement) → statements_
 unfolding statements_of_text
 text_good bytes statements e =
     let read = bound (unless ((nat_le (length bytes) FILE_LIMIT, fault_at TooLong 0) ∷ (is_utf8 bytes, fault_at NotText (bad_line bytes)) ∷ []) bytes)
-        (λ text. statements_at (behind_blanks (at 1 (chars text)))) statements e in
+    (λ text. statements_at (behind_blanks (at 1 (chars text)))) statements e in
     by read.0 read.2 (nat_le (length bytes) FILE_LIMIT) (is_utf8 bytes) refl read.1
   where
     by : (text : List ℕ) → statements_at (behind_blanks (at 1 (chars text))) ≡ Ok statements → (short utf8 : Bool) → is_utf8 bytes ≡ utf8

@@ -229,7 +229,5 @@ LoadPlugin \"threshold\"
 fn prints_the_canonical_text(rt: HostRuntime) -> Result<(), Fail> {
     let once = shown(rt.alloc(), SAMPLE.as_bytes())?;
     assert_eq!(rt; once.as_str(), CANONICAL);
-    let twice = shown(rt.alloc(), CANONICAL.as_bytes())?;
-    assert_eq!(rt; twice.as_str(), CANONICAL);
     Ok(())
 }
