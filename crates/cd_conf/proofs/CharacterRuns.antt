@@ -1,8 +1,10 @@
 -- Keys and words, one character after the other.
-use Rattle.std.proofs.Common.{◌≡◌, ℕ, ◌<◌, length, arith, List, [], ◌∷◌, ◌++◌, Bool, true, false, refl, ap, sym, ◌∙◌, append_assoc, add_comm, add-one}
+use Rattle.std.proofs.Common.{◌≡◌, ℕ, ◌<◌, ◌-◌, length, length-append, take, arith, List, [], ◌∷◌, ◌++◌, Bool, true, false, refl, ap, sym, ◌∙◌, append_assoc, add_comm, add-one}
 use Rattle.std.specs.Char.{encode_utf8}
 use Rattle.std.specs.List.{take_while, prefix_len}
-use Rattle.std.specs.Str.{encode_utf8_all}
+use Rattle.std.specs.Str.{IsUtf8, chars, encode_utf8_all}
+use Rattle.std.proofs.Math.Seq.{take-append_seam}
+use Rattle.std.proofs.lemmas.Str.{encodes-append, encodes-chars}
 use Rattle.cd_conf.specs.Blanks.{skip_while}
 use Rattle.cd_conf.proofs.Skips.{skipped}
 use Rattle.cd_conf.specs.Characters.{may_stand, front_run, after_run}
@@ -52,3 +54,33 @@ run_shorter kind c text cs h e =
     let l : length (after_run kind text) ≡ length (after_run kind cs) = ap length (ap (after_run kind) e ∙ after_more kind c cs h) in
     let m : length text ≡ length (c ∷ cs) = ap length e in
     omega (arith, s, l, m)
+
+-- the run and what follows it are the text
+split : (p : ℕ → Bool) (cs : List ℕ) → cs ≡ take_while p cs ++ skip_while p cs
+unfolding skip_while
+split p [] = refl
+split p (c ∷ cs) = by (p c) refl (split p cs)
+  where
+    by : (t : Bool) → p c ≡ t → cs ≡ take_while p cs ++ skip_while p cs → c ∷ cs ≡ take_while p (c ∷ cs) ++ skip_while p (c ∷ cs)
+    by true e h =
+        let on : skip_while p (c ∷ cs) ≡ skip_while p cs = rw e refl in
+        ap (λ (xs : List ℕ). c ∷ xs) h ∙ ap (λ (xs : List ℕ). xs ++ skip_while p cs) (sym (while_more p c cs e))
+        ∙ ap (λ (xs : List ℕ). take_while p (c ∷ cs) ++ xs) (sym on)
+    by false e h =
+        let none : take_while p (c ∷ cs) ≡ [] = rw e refl in
+        let on : skip_while p (c ∷ cs) ≡ c ∷ cs = rw e refl in
+        sym (ap (λ (xs : List ℕ). xs ++ skip_while p (c ∷ cs)) none ∙ on)
+
+pub whole : (kind : Kind) (text rest : List ℕ) → IsUtf8 text → IsUtf8 rest → chars rest ≡ after_run kind (chars text) → text ≡ front_run kind (chars text) ++ rest
+whole kind text rest t r e =
+    sym (encodes-chars text t) ∙ ap encode_utf8_all (split (may_stand kind) (chars text))
+    ∙ encodes-append (take_while (may_stand kind) (chars text)) (skip_while (may_stand kind) (chars text))
+    ∙ ap (λ (xs : List ℕ). front_run kind (chars text) ++ xs) (sym (ap encode_utf8_all e) ∙ encodes-chars rest r)
+
+-- where what follows a front begins
+pub front_length : (text front rest : List ℕ) → text ≡ front ++ rest → length front ≡ length text - length rest
+front_length text front rest e = omega (arith, ap length e, length-append front rest)
+
+pub front_taken : (text front rest : List ℕ) → text ≡ front ++ rest → take (length text - length rest) text ≡ front
+front_taken text front rest e =
+    ap (λ (n : ℕ). take n text) (sym (front_length text front rest e)) ∙ ap (take (length front)) e ∙ take-append_seam front rest

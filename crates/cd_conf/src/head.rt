@@ -35,10 +35,11 @@ fn head_from<'a>(
     ensures text { IfOk result (λ found. IfSome found (λ cut. IsUtf8 cut.1.now)) }
     ensures shorter { IfOk result (λ found. IfSome found (λ cut. length cut.1.now ≤ length text.now)) }
 {
-    let (key, rest) = split_run(alloc, Kind::Key, text)?;
+    let (key, rest) = split_run(Kind::Key, text);
     if key.is_empty() {
         Ok(None)
     } else {
+        let key = Text::of(alloc, key)?;
         Ok(Some((Head { kind, key }, rest)))
     }
 }

@@ -1,5 +1,7 @@
 //! Words that are numbers or flags.
 ghost use Rattle.cd_conf.specs.Digits.{digits_in};
+ghost use Rattle.cd_conf.specs.Faults.{conf_fault};
+ghost use Rattle.cd_reading.specs.Gives.{Gives};
 ghost use Rattle.cd_conf.specs.Numbers.{
   all_digits,
   are_digits,
@@ -39,6 +41,7 @@ use crate::form::Form;
 use crate::item::Arg;
 use crate::limits::{DECIMALS_LIMIT, NUMBER_LIMIT};
 use cd_value::{MILLIONTHS, Text};
+use std::alloc::Global;
 
 /// Whether each byte is a digit of a base.
 fn all_digits(base: u32, text: &[u8]) -> bool
@@ -261,7 +264,7 @@ fn with_sign(is_negative: bool, magnitude: u128) -> i128
 /// The value that a number of a line is.
 fn number_arg(line: u32, is_negative: bool, magnitude: Option<u128>) -> Result<Arg, ConfFault>
     requires { ForSome magnitude (λ n. n ≤ millionths_limit) }
-    ensures { result ≡ number_arg line is_negative magnitude }
+    ensures { Gives (λ arg. arg) conf_fault result (number_arg line is_negative magnitude) }
 {
     match magnitude {
         Some(magnitude) => Ok(Arg::Number(with_sign(is_negative, magnitude))),
@@ -273,30 +276,31 @@ fn number_arg(line: u32, is_negative: bool, magnitude: Option<u128>) -> Result<A
 }
 
 /// The value of a word that is no flag.
-fn plain_arg(line: u32, word: Text) -> Result<Arg, ConfFault>
-    ensures { result ≡ plain_arg line word (digits_of (without_leading_sign word)) }
+fn plain_arg(alloc: Global, line: u32, word: &str) -> Result<Arg, ConfFault>
+    ensures { Gives (λ arg. arg) conf_fault result
+        (plain_arg line word.now (digits_of (without_leading_sign word.now))) }
 {
-    let bytes = word.as_str().as_bytes();
+    let bytes = word.as_bytes();
     match form_of(after_sign(bytes)) {
         Some(form) => number_arg(line, begins_with_minus(bytes), magnitude(form)),
-        None => Ok(Arg::Words(word)),
+        None => Ok(Arg::Words(Text::of(alloc, word)?)),
     }
 }
 
 /// Whether a word is a name, whatever the case of its letters.
-fn is_word(word: &Text, name: &str) -> bool
+fn is_word(word: &str, name: &str) -> bool
     ensures { result ≡ is_word word.now name.now }
 {
-    word.as_str().eq_ignore_ascii_case(name)
+    word.eq_ignore_ascii_case(name)
 }
 
-fn is_true_word(word: &Text) -> bool
+fn is_true_word(word: &str) -> bool
     ensures { result ≡ is_true_word word.now }
 {
     is_word(word, "true") || is_word(word, "yes") || is_word(word, "on")
 }
 
-fn is_false_word(word: &Text) -> bool
+fn is_false_word(word: &str) -> bool
     ensures { result ≡ is_false_word word.now }
 {
     is_word(word, "false") || is_word(word, "no") || is_word(word, "off")
@@ -304,14 +308,14 @@ fn is_false_word(word: &Text) -> bool
 
 /// The value of a word without quotes in a line: a flag, a number or a text.
 #[tactic(auto, unfolding(crate::specs::Numbers::word_arg))]
-pub fn word_arg(line: u32, word: Text) -> Result<Arg, ConfFault>
-    ensures { result ≡ word_arg line word }
+pub fn word_arg(alloc: Global, line: u32, word: &str) -> Result<Arg, ConfFault>
+    ensures { Gives (λ arg. arg) conf_fault result (word_arg line word.now) }
 {
-    if is_true_word(&word) {
+    if is_true_word(word) {
         Ok(Arg::Flag(true))
-    } else if is_false_word(&word) {
+    } else if is_false_word(word) {
         Ok(Arg::Flag(false))
     } else {
-        plain_arg(line, word)
+        plain_arg(alloc, line, word)
     }
 }

@@ -4,8 +4,6 @@ ghost use Rattle.std.specs.Prelude.{IfNone, IfOk, IfSome, [], length, true, ◌<
 ghost use Rattle.std.specs.Str.{IsUtf8, chars};
 
 use crate::chars::split_first;
-use cd_value::{Memory, Text};
-use std::alloc::Global;
 
 /// What a run of characters is.
 #[derive(Clone, Copy)]
@@ -59,18 +57,27 @@ fn split_member(kind: Kind, text: &str) -> Option<(char, &str)>
     }
 }
 
-/// The key or word at the front of a text, which may be empty, and what follows it.
-pub fn split_run<'a>(alloc: Global, kind: Kind, text: &'a str) -> Result<(Text, &'a str), Memory>
-    ensures run { IfOk result (λ cut. cut.0 ≡ front_run kind (chars text.now)) }
-    ensures rest { IfOk result (λ cut. chars cut.1.now ≡ after_run kind (chars text.now)) }
-    ensures text { IfOk result (λ cut. IsUtf8 cut.1.now) }
-    ensures shorter { IfOk result (λ cut. length cut.1.now ≤ length text.now) }
+/// What follows the key or word at the front of a text.
+fn behind_run(kind: Kind, text: &str) -> &str
+    ensures rest { chars result.now ≡ after_run kind (chars text.now) }
+    ensures text { IsUtf8 result.now }
+    ensures shorter { length result.now ≤ length text.now }
 {
-    let mut run = String::new(alloc);
     let mut rest = text;
-    while let Some((c, more)) = split_member(kind, rest) {
-        run.push(c)?;
+    while let Some((_, more)) = split_member(kind, rest) {
         rest = more;
     }
-    Ok((Text::from_string(run), rest))
+    rest
+}
+
+/// The key or word at the front of a text, which may be empty, and what follows it.
+pub fn split_run(kind: Kind, text: &str) -> (&str, &str)
+    ensures run { result.0.now ≡ front_run kind (chars text.now) }
+    ensures rest { chars result.1.now ≡ after_run kind (chars text.now) }
+    ensures text { IsUtf8 result.1.now }
+    ensures shorter { length result.1.now ≤ length text.now }
+{
+    let rest = behind_run(kind, text);
+    let (run, _) = text.split_at(text.len() - rest.len());
+    (run, rest)
 }

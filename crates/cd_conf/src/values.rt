@@ -41,8 +41,8 @@ fn plain_word<'a>(alloc: Global, place: Place<'a>) -> Result<(Arg, Place<'a>), C
     ensures later { IfOk result (λ v.
         characters_left v.1 ≤ length (after_run Word (position place.entry).rest)) }
 {
-    let (word, rest) = split_run(alloc, Kind::Word, place.rest)?;
-    let arg = word_arg(place.line, word)?;
+    let (word, rest) = split_run(Kind::Word, place.rest);
+    let arg = word_arg(alloc, place.line, word)?;
     Ok((
         arg,
         skip_blanks(Place {

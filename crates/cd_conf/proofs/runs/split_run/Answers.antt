@@ -1,15 +1,21 @@
-use Rattle.std.proofs.Common.{arith}
-use Rattle.std.specs.Str.{chars}
-use Rattle.std.specs.String.{string_bytes}
-use Rattle.cd_conf.proofs.CharacterRuns.{front_goes_on, after_goes_on}
+use Rattle.std.proofs.Common.{subst, ◌∙◌}
+use Rattle.std.specs.Str.{IsCharBoundary, chars}
+use Rattle.std.proofs.lemmas.Str.{IsCharBoundary-at_seam}
+use Rattle.cd_conf.specs.Characters.{front_run}
+use Rattle.cd_conf.proofs.CharacterRuns.{front_length, front_taken, whole}
 use Rattle.cd_conf.proofs.runs.split_run.Goals as goal
 
-pub loop-c-preserved : goal.loop-c-preserved
-loop-c-preserved c = record {
-  utf8 = c.in-Some.ensures.text;
-  run = front_goes_on c.args.kind c.in-Some.c (chars c.loop-c.rest.now) (chars c.in-Some.more.now) (string_bytes c.loop-c.run) _ _
-      c.in-Some.ensures.member c.in-Some.ensures.first c.in_ok-push.ensures.bytes c.loop-c.invariant.run;
-  rest = after_goes_on c.args.kind c.in-Some.c (chars c.loop-c.rest.now) (chars c.in-Some.more.now) _
-      c.in-Some.ensures.member c.in-Some.ensures.first c.loop-c.invariant.rest;
-  shorter = omega (arith, c.in-Some.ensures.shorter);
-}
+pub split_at-requires : goal.split_at-requires
+split_at-requires c =
+    let text = c.args.text.now in
+    let rest = c.behind_run-rest.result.now in
+    let e = whole c.args.kind text rest c.utf8.text c.behind_run-rest.ensures.text c.behind_run-rest.ensures.rest in
+    subst (IsCharBoundary text) (front_length text (front_run c.args.kind (chars text)) rest e)
+    (IsCharBoundary-at_seam text (front_run c.args.kind (chars text)) rest e c.behind_run-rest.ensures.text)
+
+pub returns-clause-run : goal.returns-clause-run
+returns-clause-run c =
+    let text = c.args.text.now in
+    let rest = c.behind_run-rest.result.now in
+    let e = whole c.args.kind text rest c.utf8.text c.behind_run-rest.ensures.text c.behind_run-rest.ensures.rest in
+    c.split_at.ensures.front ∙ front_taken text (front_run c.args.kind (chars text)) rest e
