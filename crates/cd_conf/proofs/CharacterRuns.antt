@@ -1,5 +1,5 @@
 -- Keys and words, one character after the other.
-use Rattle.std.proofs.Common.{◌≡◌, ℕ, ◌<◌, ◌-◌, length, length-append, take, arith, List, [], ◌∷◌, ◌++◌, Bool, true, false, refl, ap, sym, ◌∙◌, append_assoc, add_comm, add-one}
+use Rattle.std.proofs.Common.{◌≡◌, ℕ, ◌<◌, ◌-◌, length, length-append, take, arith, List, [], ◌∷◌, ◌++◌, Bool, true, false, refl, ap, sym, ◌∙◌, add_comm, add-one}
 use Rattle.std.specs.Char.{encode_utf8}
 use Rattle.std.specs.List.{take_while, prefix_len}
 use Rattle.std.specs.Str.{IsUtf8, chars, encode_utf8_all}
@@ -31,13 +31,7 @@ pub after_end : (kind : Kind) → after_run kind [] ≡ []
 unfolding skip_while
 after_end kind = refl
 
--- one more character of the run is read
-pub front_goes_on : (kind : Kind) (c : ℕ) (text cs run more total : List ℕ) → may_stand kind c ≡ true → text ≡ c ∷ cs → more ≡ run ++ encode_utf8 c
-    → run ++ front_run kind text ≡ total → more ++ front_run kind cs ≡ total
-front_goes_on kind c text cs run more total h t m so_far =
-    ap (λ (xs : List ℕ). xs ++ front_run kind cs) m ∙ append_assoc run (encode_utf8 c) (front_run kind cs)
-    ∙ ap (λ (xs : List ℕ). run ++ xs) (sym (ap (front_run kind) t ∙ front_more kind c cs h)) ∙ so_far
-
+-- one more character of the run is passed over
 pub after_goes_on : (kind : Kind) (c : ℕ) (text cs total : List ℕ) → may_stand kind c ≡ true → text ≡ c ∷ cs → after_run kind text ≡ total → after_run kind cs ≡ total
 after_goes_on kind c text cs total h t so_far = sym (ap (after_run kind) t ∙ after_more kind c cs h) ∙ so_far
 
