@@ -13,7 +13,7 @@ module _ (holds follows : List Cut → List ℕ → Type 0) (shows : (lines : Li
     short = a.short;
     served = shows (cut_lines a.heard) a.text a.served;
     spoke = a.spoke;
-    ended = a.ended;
+    over = a.over;
   }
 
   pub TooMuch-weaker : TooMuch holds limit before after → TooMuch follows limit before after

@@ -1,70 +1,53 @@
 -- The service of a whole input, step by step.
 use Rattle.std.proofs.Common.{◌≡◌, Result, Ok, Err, IsErrAnd, ◌≤◌, ◌<◌, ◌+◌, ◌-◌, ◌++◌, ℕ, List, [], length, take, map, ◌⊎◌, inl, inr, sym, ap, ◌∙◌, subst, arith, length-append}
-use Rattle.std.proofs.lemmas.Bool.{cases_lt, cond-true, cond-false, lt-ltb, le-ltb}
-use Rattle.std.proofs.lemmas.List.{append-nil, map-append, take_all}
+use Rattle.std.proofs.lemmas.List.{append-nil}
 use Rattle.std.proofs.Math.Seq.{take-append-add}
-use Rattle.cd_io.specs.Causes.{Rose}
-use Rattle.cd_io.specs.Link.{HasEnded, LinkTells, Spoke}
+use Rattle.cd_io.specs.Link.{LinkTells, Spoke}
 use Rattle.cd_io.proofs.Rises.{later_rose, rose_later}
 use Rattle.cd_io.proofs.Speaking.{spoke_nothing, spoke_then_nothing, spoke_then_said, still_ended}
-use Rattle.cd_sock.specs.Lines.{BeginsWith, Cut, HasCut, cut, cut_lines, if_not_empty, lines, unfinished, whole_lines}
+use Rattle.cd_sock.specs.Lines.{BeginsWith, Cut, HasCut, cut, cut_lines, whole_lines}
 use Rattle.cd_dialogue.specs.declared.ends.DialogueFault.{DialogueFault}
 use Rattle.cd_dialogue.specs.declared.ends.DialogueFault.TheVariants.{Link, Memory}
 use Rattle.cd_dialogue.specs.declared.ends.InputEnd.{InputEnd}
 use Rattle.cd_dialogue.specs.declared.ends.Step.{Step}
 use Rattle.cd_dialogue.specs.declared.ends.Step.TheVariants.{Ended, Heard, Quiet, TooLong}
 use Rattle.cd_dialogue.specs.Dialogues.{Broke, BrokeOff, Closed, LeftOff, ServesInput, Steps, Waited, WentOn, ended_in}
-use Rattle.cd_dialogue.specs.Inputs.{AllServed, TooMuch, lines_within}
+use Rattle.cd_dialogue.specs.Inputs.{AllServed, AreFirstOf, IsOver, TooMuch}
 use Rattle.cd_dialogue.specs.Served.{Served}
-use Rattle.cd_dialogue.proofs.Breaking.{begins_none, begins_then, none_served, off_then}
+use Rattle.cd_dialogue.proofs.Breaking.{begins_none, none_served, off_then}
 use Rattle.cd_dialogue.proofs.Going.{went_then}
 use Rattle.cd_dialogue.proofs.Serving.{served_then}
-
--- ---- the lines within a limit
-
-within_short : (limit : ℕ) (heard : List ℕ) → length heard ≤ limit → lines_within limit heard ≡ cut_lines heard
-within_short limit heard short = cond-false _ _ _ (le-ltb limit (length heard) short)
-
-within_long : (limit : ℕ) (heard : List ℕ) → limit < length heard → lines_within limit heard ≡ map cut (whole_lines (take limit heard))
-within_long limit heard long = cond-true _ _ _ (lt-ltb limit (length heard) long)
-
--- the lines that end with a newline are the first of all
-ended_first : (bytes : List ℕ) → BeginsWith (cut_lines bytes) (map cut (whole_lines bytes))
-unfolding cut_lines lines
-ended_first bytes = (map cut (if_not_empty (unfinished bytes)), map-append cut (whole_lines bytes) (if_not_empty (unfinished bytes)))
 
 -- what is taken of more bytes, where some were taken already
 take_more : (done more : List ℕ) (limit room : ℕ) → length done + room ≡ limit → take limit (done ++ more) ≡ done ++ take room more
 take_more done more limit room size = ap (λ (n : ℕ). take n (done ++ more)) (sym size) ∙ take-append-add done more room
 
--- the lines that end in what is taken are the first of those within the limit
-taken_first : (done more : List ℕ) (limit room : ℕ) → length done + room ≡ limit → BeginsWith (lines_within limit (done ++ more)) (map cut (whole_lines (done ++ take room more)))
-taken_first done more limit room size = elim (cases_lt limit (length (done ++ more))) [
-  | inl long ↦
-      let B : List Cut → Type 0 = λ all. BeginsWith all (map cut (whole_lines (done ++ take room more))) in
-      let T : List ℕ → Type 0 = λ bytes. BeginsWith (map cut (whole_lines bytes)) (map cut (whole_lines (done ++ take room more))) in
-      subst B (sym (within_long limit (done ++ more) long)) (subst T (sym (take_more done more limit room size)) ([], sym (append-nil _)))
-  | inr short ↦
-      let B : List Cut → Type 0 = λ all. BeginsWith all (map cut (whole_lines (done ++ take room more))) in
-      let T : List ℕ → Type 0 = λ bytes. BeginsWith (cut_lines (done ++ more)) (map cut (whole_lines (done ++ bytes))) in
-      let all : take room more ≡ more = take_all room more (omega (arith, size, short, length-append done more)) in
-      subst B (sym (within_short limit (done ++ more) short)) (subst T (sym all) (ended_first (done ++ more)))
-]
+-- an input that was over is so after more of a dialogue in which nothing was heard
+over_later : (text : List ℕ) (start link after end : LinkTells) → start.quiets ≤ link.quiets → Spoke [] text after end → IsOver link after → IsOver start end
+over_later text start link after end less s (inl none) = inl (still_ended text after end s none)
+over_later text start link after end less s (inr rose) =
+    inr (rose_later start.quiets after.quiets end.quiets (later_rose start.quiets link.quiets after.quiets less rose) s.quiets)
 
 -- it broke off in the service of an input
 left : {S : Type 0} (serves : Cut → List ℕ → S → S → Type 0) (gives_up : S → S → Type 0) (old new : S) (before after : LinkTells) (limit : ℕ)
-    (fault : DialogueFault) (heard : List ℕ) (lines : List Cut) → BeginsWith (lines_within limit heard) lines
+    (fault : DialogueFault) (heard : List ℕ) (lines : List Cut) → AreFirstOf limit before after heard lines
     → BrokeOff serves gives_up old new before after heard lines fault → LeftOff serves gives_up old new before after limit fault
 left serves gives_up old new before after limit Link heard lines first b =
     record { heard = heard; lines = lines; first = first; said = b.said; unsaid = b.unsaid; served = b.served; spoke = b.spoke; rose = b.rose }
 left serves gives_up old new before after limit Memory heard lines first b =
     record { heard = heard; lines = lines; first = first; text = b.text; served = b.gave_up; spoke = b.spoke }
 
+-- what was said before it broke off, where nothing was heard
+broke_spoke : {S : Type 0} (serves : Cut → List ℕ → S → S → Type 0) (gives_up : S → S → Type 0) (old new : S) (before after : LinkTells) (lines : List Cut)
+    (fault : DialogueFault) → BrokeOff serves gives_up old new before after [] lines fault → (text : List ℕ) × Spoke [] text before after
+broke_spoke serves gives_up old new before after lines Link b = (b.said, b.spoke)
+broke_spoke serves gives_up old new before after lines Memory b = (b.text, b.spoke)
+
 -- memory was lacking before anything was heard
 pub none_heard : {S : Type 0} (serves : Cut → List ℕ → S → S → Type 0) (gives_up : S → S → Type 0) (server : S) (link : LinkTells) (limit : ℕ)
     → LeftOff serves gives_up server server link link limit Memory
 none_heard serves gives_up server link limit =
-    left serves gives_up server server link link limit Memory [] [] (begins_none _) (none_served serves gives_up server link link [] (spoke_nothing link))
+    left serves gives_up server server link link limit Memory [] [] (inl (begins_none _)) (none_served serves gives_up server link link [] (spoke_nothing link))
 
 -- what a step did that answered so
 pub step_was : {S : Type 0} (serves : Cut → List ℕ → S → S → Type 0) (held held' : Cut) (old new : S) (before after : LinkTells) (room : ℕ) (step is : Step)
@@ -75,7 +58,7 @@ step_was serves held held' old new before after room step is e s =
 -- the input ended or the link was quiet
 pub step_waited : {S : Type 0} (serves : Cut → List ℕ → S → S → Type 0) (held held' : Cut) (old new : S) (before after : LinkTells) (room : ℕ) (step : Step)
     → (step ≡ Ended) ⊎ (step ≡ Quiet) → Steps serves held held' old new before after room step
-    → Waited serves held held' old new before after × (HasEnded after ⊎ Rose before.quiets after.quiets)
+    → Waited serves held held' old new before after × IsOver before after
 step_waited serves held held' old new before after room step (inl e) s =
     let w = step_was serves held held' old new before after room step Ended e s in (w.0, inl w.1)
 step_waited serves held held' old new before after room step (inr e) s =
@@ -121,8 +104,9 @@ module _ {S : Type 0} (serves : Cut → List ℕ → S → S → Type 0) (first 
   pub left_off : (gives_up : S → S → Type 0) (fault : DialogueFault) (new : S) (after : LinkTells)
       → (heard : List ℕ) × Broke serves gives_up fault (ended_in (take room heard)) held now new link after heard → LeftOff serves gives_up old new start after limit fault
   left_off gives_up fault new after (heard, b) =
+      let B : List ℕ → Type 0 = λ bytes. BeginsWith (map cut (whole_lines bytes)) (w.lines ++ b.lines) in
       left serves gives_up old new start after limit fault (done ++ heard) (w.lines ++ b.lines)
-      (begins_then _ _ (w.lines ++ b.lines) (taken_first done heard limit room size) (b.first done w.lines cut_now))
+      (inl (subst B (sym (take_more done heard limit room size)) (b.first done w.lines cut_now)))
       (off_then serves gives_up old now new start link after done heard w.lines b.lines w.text fault w.served w.spoke b.broke)
 
   -- ---- the end of the input
@@ -138,10 +122,13 @@ module _ {S : Type 0} (serves : Cut → List ℕ → S → S → Type 0) (first 
     spoke_so_far : Spoke done w.text start after
     spoke_so_far = spoke_then_nothing done w.text start link after w.spoke s.spoke
 
+    quiets_so_far : start.quiets ≤ link.quiets
+    quiets_so_far = w.spoke.quiets
+
     -- the last line was served
     pub served_all : (held'' : Cut) (last : S) (end : LinkTells) → Closed serves held' held'' new last after end
-        → HasEnded after ⊎ Rose link.quiets after.quiets → AllServed (λ lines text. Served serves lines text old last) limit start end
-    served_all held'' last end c ended = record {
+        → IsOver link after → AllServed (λ lines text. Served serves lines text old last) limit start end
+    served_all held'' last end c over = record {
       heard = done;
       text = w.text ++ c.text;
       short = omega (arith, size);
@@ -149,18 +136,15 @@ module _ {S : Type 0} (serves : Cut → List ℕ → S → S → Type 0) (first 
           let L : List Cut → Type 0 = λ ls. Served serves ls (w.text ++ c.text) old last in
           subst L (c.last done w.lines cut_then) (served_then serves w.lines c.lines w.text c.text old new last served_so_far c.served);
       spoke = spoke_then_said done w.text c.text start after end spoke_so_far c.spoke;
-      ended = elim ended [
-        | inl none ↦ inl (still_ended c.text after end c.spoke none)
-        | inr rose ↦ inr (rose_later start.quiets after.quiets end.quiets (later_rose start.quiets link.quiets after.quiets w.spoke.quiets rose) c.spoke.quiets)
-      ];
+      over = over_later c.text start link after end quiets_so_far c.spoke over;
     }
 
     -- it broke off at the last line
     pub left_off_last : (gives_up : S → S → Type 0) (fault : DialogueFault) (last : S) (end : LinkTells) → Broke serves gives_up fault cut_lines held' new last after end []
-        → LeftOff serves gives_up old last start end limit fault
-    left_off_last gives_up fault last end b =
-        let B : List Cut → Type 0 = λ all. BeginsWith all (w.lines ++ b.lines) in
+        → IsOver link after → LeftOff serves gives_up old last start end limit fault
+    left_off_last gives_up fault last end b over =
         let O : List ℕ → Type 0 = λ h. BrokeOff serves gives_up old last start end h (w.lines ++ b.lines) fault in
+        let spoke = broke_spoke serves gives_up new last after end b.lines fault b.broke in
         left serves gives_up old last start end limit fault done (w.lines ++ b.lines)
-        (subst B (sym (within_short limit done (omega (arith, size)))) (b.first done w.lines cut_then))
+        (inr (omega (arith, size), over_later spoke.0 start link after end quiets_so_far spoke.1 over, b.first done w.lines cut_then))
         (subst O (append-nil done) (off_then serves gives_up old new last start after end done [] w.lines b.lines w.text fault served_so_far spoke_so_far b.broke))

@@ -1,14 +1,23 @@
 -- What the service of a whole input promises, by what holds of the lines that were served and of their replies.
-use Rattle.std.specs.Prelude.{◌≤◌, ◌<◌, ◌⊎◌, ℕ, List, ◌++◌, length, map, take, nat_lt, if◌then◌else◌}
+use Rattle.std.specs.Prelude.{◌≤◌, ◌<◌, ◌⊎◌, ℕ, List, ◌++◌, length, map, take}
 use Rattle.cd_io.specs.Causes.{Rose}
 use Rattle.cd_io.specs.Link.{LinkTells, HasEnded, Spoke}
 use Rattle.cd_sock.specs.Lines.{BeginsWith, Cut, cut, cut_lines, whole_lines}
 
--- the lines that are served of an input of which no more than so many bytes are taken: where more came, just those that
--- end within the limit
+-- the lines that end with a newline in what is taken of an input: no more than so many bytes
 abbrev pub lines_within : ℕ → List ℕ → List Cut
-lines_within limit heard =
-    if nat_lt limit (length heard) then map cut (whole_lines (take limit heard)) else cut_lines heard
+lines_within limit heard = map cut (whole_lines (take limit heard))
+
+-- an input is over: nothing is left of it, or nothing came for a while
+abbrev pub IsOver : LinkTells → LinkTells → Type 0
+IsOver before after = HasEnded after ⊎ Rose before.quiets after.quiets
+
+-- the first of the lines within the limit; the last line of an input, where it has no newline, is among them only where
+-- the input is over and no more came than is taken
+abbrev pub AreFirstOf : ℕ → LinkTells → LinkTells → List ℕ → List Cut → Type 0
+AreFirstOf limit before after heard lines =
+    BeginsWith (lines_within limit heard) lines
+    ⊎ ((length heard ≤ limit) × IsOver before after × BeginsWith (cut_lines heard) lines)
 
 module _ (holds : List Cut → List ℕ → Type 0) (limit : ℕ) (before after : LinkTells) where
   -- all lines were served, and their replies said; nothing is left, or nothing came for a while
@@ -18,21 +27,21 @@ module _ (holds : List Cut → List ℕ → Type 0) (limit : ℕ) (before after 
     pub short : length heard ≤ limit
     pub served : holds (cut_lines heard) text
     pub spoke : Spoke heard text before after
-    pub ended : HasEnded after ⊎ Rose before.quiets after.quiets
+    pub over : IsOver before after
 
   -- more came than is taken; the lines that end in what is taken were served, and their replies said
   pub record TooMuch : Type 0 where
     pub heard : List ℕ
     pub text : List ℕ
     pub long : limit < length heard
-    pub served : holds (map cut (whole_lines (take limit heard))) text
+    pub served : holds (lines_within limit heard) text
     pub spoke : Spoke heard text before after
 
   -- the link failed; the first lines were served, and of their replies the beginning was said
   pub record LinkLost : Type 0 where
     pub heard : List ℕ
     pub lines : List Cut
-    pub first : BeginsWith (lines_within limit heard) lines
+    pub first : AreFirstOf limit before after heard lines
     pub said : List ℕ
     pub unsaid : List ℕ
     pub served : holds lines (said ++ unsaid)
@@ -43,7 +52,7 @@ module _ (holds : List Cut → List ℕ → Type 0) (limit : ℕ) (before after 
   pub record MemoryLacked : Type 0 where
     pub heard : List ℕ
     pub lines : List Cut
-    pub first : BeginsWith (lines_within limit heard) lines
+    pub first : AreFirstOf limit before after heard lines
     pub text : List ℕ
     pub served : holds lines text
     pub spoke : Spoke heard text before after

@@ -31,7 +31,7 @@ returns-in_err-finish-in-Ended g c =
     let i = c.loop-dialogue.invariant in
     let waited = step_waited _ _ _ _ _ _ _ _ _ c.in-Ended.is c.in_ok-count.ensures.ok in
     handed_input _ _ _ _ _ _ _ _ _ c.from_residual-in_err-finish-in-Ended.ensures.1
-    (left_off_last _ _ _ i.begins _ _ _ _ i.done _ _ i.size i.went _ _ _ waited.0 _ _ _ _ c.in_err-finish-in-Ended.ensures.broke)
+    (left_off_last _ _ _ i.begins _ _ _ _ i.done _ _ i.size i.went _ _ _ waited.0 _ _ _ _ c.in_err-finish-in-Ended.ensures.broke waited.1)
 
 pub returns-in-Ended : goal.returns-in-Ended
 returns-in-Ended g c =
