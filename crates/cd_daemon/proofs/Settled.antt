@@ -1,15 +1,15 @@
 -- A daemon that stopped and has no list left stays so.
-use Rattle.std.proofs.Common.{◌≡◌, ◌<◌, ℕ, true, List, [], ◌∷◌, ◌++◌, length, Result, Ok, Err, refl, sym, ◌∙◌, subst, arith}
-use Rattle.cd_value.specs.declared.data.ValueList.{ValueList}
-use Rattle.cd_value.specs.declared.data.Offered.{Offered}
-use Rattle.cd_history.specs.declared.entry.Stopping.{Stopping}
-use Rattle.cd_history.specs.declared.entry.Entry.TheVariants as entry
-use Rattle.cd_history.specs.History.{Event, History, ◌▸◌, handles, is_stopped, kept}
-use Rattle.cd_history.specs.Order.{Continues}
-use Rattle.cd_daemon.specs.declared.Opening.{Opening}
 use Rattle.cd_daemon.specs.Answers.{accept_answer}
-use Rattle.cd_daemon.specs.Legal.{IsLegal, Allowed}
+use Rattle.cd_daemon.specs.Legal.{Allowed, IsLegal}
 use Rattle.cd_daemon.specs.Settled.{IsSettled}
+use Rattle.cd_daemon.specs.declared.Opening.{Opening}
+use Rattle.cd_history.specs.History.{Event, History, handles, is_stopped, kept, ◌▸◌}
+use Rattle.cd_history.specs.Order.{Continues}
+use Rattle.cd_history.specs.declared.entry.Entry.TheVariants as entry
+use Rattle.cd_history.specs.declared.entry.Stopping.{Stopping}
+use Rattle.cd_value.specs.declared.data.Offered.{Offered}
+use Rattle.cd_value.specs.declared.data.ValueList.{ValueList}
+use Rattle.std.proofs.Common.{Err, List, Ok, Result, [], arith, length, refl, subst, sym, true, ℕ, ◌++◌, ◌<◌, ◌∙◌, ◌∷◌, ◌≡◌}
 
 -- after a stop no list is accepted
 none_accepted : (K : Opening) (P : History) (lists : List ValueList) (words : List ℕ) → is_stopped P ≡ true → accept_answer K P lists words ≡ Err (record {})

@@ -1,18 +1,22 @@
 -- A dialogue that broke off.
-use Rattle.std.proofs.Common.{◌≡◌, ℕ, Result, Ok, Err, IfErr, IsErrAnd, List, [], ◌∷◌, ◌++◌, take, drop, map, Option, Some, inl, inr, refl, sym, ap, ◌∙◌, subst, append_assoc}
-use Rattle.std.proofs.lemmas.List.{append-nil, map-append, take-append-drop}
-use Rattle.std.specs.Option.{option_to_list}
+use Rattle.cd_dialogue.proofs.Exchanging.{exchanged_nothing, exchanged_then}
+use Rattle.cd_dialogue.proofs.Serving.{served_none, served_then, served_then_to, served_to}
+use Rattle.cd_dialogue.specs.Dialogues.{AreFirst, Broke, BrokeOff, WentOn, ended_in}
+use Rattle.cd_dialogue.specs.Exchanges.{Exchanged}
+use Rattle.cd_dialogue.specs.Served.{Served, ServedTo}
+use Rattle.cd_dialogue.specs.declared.ends.DialogueFault.TheVariants.{Link, Memory}
+use Rattle.cd_dialogue.specs.declared.ends.DialogueFault.{DialogueFault}
+use Rattle.cd_dialogue.specs.declared.server.Next.TheVariants as next
+use Rattle.cd_dialogue.specs.declared.server.Next.{Next}
+use Rattle.cd_io.proofs.Rises.{later_rose}
+use Rattle.cd_io.proofs.Speaking.{spoke_then}
 use Rattle.cd_io.specs.Causes.{Rose}
 use Rattle.cd_io.specs.Link.{LinkTells, SaidInPart, Spoke}
-use Rattle.cd_io.proofs.Rises.{later_rose}
-use Rattle.cd_io.proofs.Speaking.{spoke_nothing, spoke_then}
-use Rattle.cd_sock.specs.Lines.{BeginsWith, Cut, Takes, Finishes, cut, cut_lines, unfinished, whole_lines}
 use Rattle.cd_sock.proofs.Pieces.{whole_joined}
-use Rattle.cd_dialogue.specs.declared.ends.DialogueFault.{DialogueFault}
-use Rattle.cd_dialogue.specs.declared.ends.DialogueFault.TheVariants.{Link, Memory}
-use Rattle.cd_dialogue.specs.Dialogues.{AreFirst, Broke, BrokeOff, WentOn, ended_in}
-use Rattle.cd_dialogue.specs.Served.{Served}
-use Rattle.cd_dialogue.proofs.Serving.{served_none, served_one, served_then}
+use Rattle.cd_sock.specs.Lines.{BeginsWith, Cut, Finishes, Takes, cut, cut_lines, unfinished, whole_lines}
+use Rattle.std.proofs.Common.{Err, IfErr, IsErrAnd, List, Ok, Option, Result, Some, [], ap, append_assoc, drop, inl, inr, map, refl, subst, sym, take, ℕ, ◌++◌, ◌∙◌, ◌∷◌, ◌≡◌}
+use Rattle.std.proofs.lemmas.List.{append-nil, map-append, take-append-drop}
+use Rattle.std.specs.Option.{option_to_list}
 
 -- the fault that a `?` hands on
 pub handed_on : {T E : Type 0} (r : Result T E) (fault : E) (P : E → Type 0) → IsErrAnd r (λ e. e ≡ fault) → P fault → IfErr r P
@@ -40,18 +44,22 @@ pub whole_first : (bytes more : List ℕ) → BeginsWith (map cut (whole_lines (
 whole_first bytes more =
     (map cut (whole_lines (unfinished bytes ++ more)), ap (map cut) (whole_joined bytes more) ∙ map-append cut (whole_lines bytes) (whole_lines (unfinished bytes ++ more)))
 
-module _ {S : Type 0} (serves : Cut → List ℕ → S → S → Type 0) (gives_up : S → S → Type 0) where
+module _ {S : Type 0} (serves : Next → Cut → List ℕ → S → S → Type 0) (gives_up : S → S → Type 0) where
   -- ---- a line
 
   -- its reply was said in part
-  pub reply_cut_short : (old new : S) (before after : LinkTells) (line : Cut) (reply : List ℕ) → serves line reply old new → SaidInPart reply before after
-      → BrokeOff serves gives_up old new before after [] (line ∷ []) Link
-  reply_cut_short old new before after line reply s p = record {
+  pub reply_cut_short : (goes : Next) (old new : S) (before after : LinkTells) (line : Cut) (reply : List ℕ) → serves goes line reply old new → SaidInPart reply before after
+      → after.quiets ≡ before.quiets → BrokeOff serves gives_up old new before after [] (line ∷ []) Link
+  reply_cut_short goes old new before after line reply s p quiets = record {
     said = p.written;
     unsaid = p.unwritten;
-    served = let T : List ℕ → Type 0 = λ w. Served serves (line ∷ []) w old new in subst T p.parts (served_one serves line reply old new s);
+    gave = record {
+      goes = goes;
+      served = let T : List ℕ → Type 0 = λ w. ServedTo serves goes (line ∷ []) w old new in subst T p.parts (served_to serves goes line reply old new s);
+    };
     spoke = p.spoke;
     rose = p.rose;
+    quiets = quiets;
   }
 
   -- where a line was cut, this holds of it
@@ -63,34 +71,38 @@ module _ {S : Type 0} (serves : Cut → List ℕ → S → S → Type 0) (gives_
 
   -- it was given up
   pub line_given_up : (old new : S) (link : LinkTells) → gives_up old new → BrokeOff serves gives_up old new link link [] [] Memory
-  line_given_up old new link g = record { text = []; gave_up = record { last = old; served = served_none serves old; then = inr g }; spoke = spoke_nothing link }
+  line_given_up old new link g = record { text = []; gave_up = record { last = old; served = served_none (serves next.GoOn) old; then = inr g }; exchanged = exchanged_nothing link }
 
   -- memory was lacking before any line
-  pub none_served : (server : S) (before after : LinkTells) (heard : List ℕ) → Spoke heard [] before after → BrokeOff serves gives_up server server before after heard [] Memory
-  none_served server before after heard p = record { text = []; gave_up = record { last = server; served = served_none serves server; then = inl refl }; spoke = p }
+  pub none_served : (server : S) (before after : LinkTells) (heard : List ℕ) → Exchanged heard [] before after → BrokeOff serves gives_up server server before after heard [] Memory
+  none_served server before after heard p = record { text = []; gave_up = record { last = server; served = served_none (serves next.GoOn) server; then = inl refl }; exchanged = p }
 
   -- ---- after a part that went on
 
   pub off_then : (old between new : S) (before then after : LinkTells) (heard more : List ℕ) (lines most : List Cut) (text : List ℕ) (fault : DialogueFault)
-      → Served serves lines text old between → Spoke heard text before then → BrokeOff serves gives_up between new then after more most fault
+      → Served (serves next.GoOn) lines text old between → Exchanged heard text before then → BrokeOff serves gives_up between new then after more most fault
       → BrokeOff serves gives_up old new before after (heard ++ more) (lines ++ most) fault
   off_then old between new before then after heard more lines most text Link s p b = record {
     said = text ++ b.said;
     unsaid = b.unsaid;
-    served =
-        let T : List ℕ → Type 0 = λ w. Served serves (lines ++ most) w old new in
-        subst T (sym (append_assoc text b.said b.unsaid)) (served_then serves lines most text (b.said ++ b.unsaid) old between new s b.served);
-    spoke = spoke_then heard more text b.said before then after p b.spoke;
-    rose = later_rose before.faults then.faults after.faults p.faults b.rose;
+    gave = record {
+      goes = b.gave.goes;
+      served =
+          let T : List ℕ → Type 0 = λ w. ServedTo serves b.gave.goes (lines ++ most) w old new in
+          subst T (sym (append_assoc text b.said b.unsaid)) (served_then_to serves b.gave.goes lines most text (b.said ++ b.unsaid) old between new s b.gave.served);
+    };
+    spoke = spoke_then heard more text b.said before then after p.spoke b.spoke;
+    rose = later_rose before.faults then.faults after.faults p.spoke.faults b.rose;
+    quiets = b.quiets ∙ p.quiets;
   }
   off_then old between new before then after heard more lines most text Memory s p b = record {
     text = text ++ b.text;
     gave_up = record {
       last = b.gave_up.last;
-      served = served_then serves lines most text b.text old between b.gave_up.last s b.gave_up.served;
+      served = served_then (serves next.GoOn) lines most text b.text old between b.gave_up.last s b.gave_up.served;
       then = b.gave_up.then;
     };
-    spoke = spoke_then heard more text b.text before then after p b.spoke;
+    exchanged = exchanged_then heard more text b.text before then after p b.exchanged;
   }
 
   -- ---- parts of a dialogue
@@ -106,16 +118,16 @@ module _ {S : Type 0} (serves : Cut → List ℕ → S → S → Type 0) (gives_
   lacked_first held server link bytes = record {
     lines = [];
     first = none_first held bytes;
-    broke = none_served server link link [] (spoke_nothing link);
+    broke = none_served server link link [] (exchanged_nothing link);
   }
 
   -- the link failed before anything was heard
   pub lost_first : (held : Cut) (server : S) (before after : LinkTells) (bytes : List ℕ) → Spoke [] [] before after → Rose before.faults after.faults
-      → Broke serves gives_up Link (ended_in bytes) held server server before after []
-  lost_first held server before after bytes p rose = record {
+      → after.quiets ≡ before.quiets → Broke serves gives_up Link (ended_in bytes) held server server before after []
+  lost_first held server before after bytes p rose quiets = record {
     lines = [];
     first = none_first held bytes;
-    broke = record { said = []; unsaid = []; served = served_none serves server; spoke = p; rose = rose };
+    broke = record { said = []; unsaid = []; gave = record { goes = next.GoOn; served = served_none (serves next.GoOn) server }; spoke = p; rose = rose; quiets = quiets };
   }
 
   -- it broke off at the line that the front of a piece ended
@@ -160,7 +172,7 @@ module _ {S : Type 0} (serves : Cut → List ℕ → S → S → Type 0) (gives_
         let L : List Cut → Type 0 = B (earlier ++ (taken ++ most)) in
         let W : List ℕ → Type 0 = λ bytes. B bytes ((given ++ w.lines) ++ b.lines) in
         subst L (append_assoc given w.lines b.lines) (subst W (append_assoc earlier taken most) (b.first (earlier ++ taken) (given ++ w.lines) (w.cuts earlier given h)));
-    broke = off_then old between new before then after heard more w.lines b.lines w.text fault w.served w.spoke b.broke;
+    broke = off_then old between new before then after heard more w.lines b.lines w.text fault w.served w.exchanged b.broke;
   }
 
   -- it broke off in the rest of a piece
@@ -173,12 +185,12 @@ module _ {S : Type 0} (serves : Cut → List ℕ → S → S → Type 0) (gives_
 
   -- it broke off in what was heard
   pub broke_heard : (fault : DialogueFault) (held : Cut) (old new : S) (before then after : LinkTells) (heard taken : List ℕ)
-      → Spoke heard [] before then → Broke serves gives_up fault (ended_in taken) held old new then after []
+      → Exchanged heard [] before then → Broke serves gives_up fault (ended_in taken) held old new then after []
       → Broke serves gives_up fault (ended_in taken) held old new before after heard
   broke_heard fault held old new before then after heard taken p b = record {
     lines = b.lines;
     first = b.first;
     broke =
         let O : List ℕ → Type 0 = λ h. BrokeOff serves gives_up old new before after h b.lines fault in
-        subst O (append-nil heard) (off_then old old new before then after heard [] [] b.lines [] fault (served_none serves old) p b.broke);
+        subst O (append-nil heard) (off_then old old new before then after heard [] [] b.lines [] fault (served_none (serves next.GoOn) old) p b.broke);
   }

@@ -1,8 +1,8 @@
 -- The service of a whole input, by another fact on the lines and their replies that follows.
-use Rattle.std.proofs.Common.{ℕ, List, ◌++◌, map, take}
+use Rattle.cd_dialogue.specs.Inputs.{AllServed, LinkLost, MemoryLacked, TooMuch, lines_within}
 use Rattle.cd_io.specs.Link.{LinkTells}
-use Rattle.cd_sock.specs.Lines.{Cut, cut, cut_lines, whole_lines}
-use Rattle.cd_dialogue.specs.Inputs.{AllServed, LinkLost, MemoryLacked, TooMuch}
+use Rattle.cd_sock.specs.Lines.{Cut, cut_lines}
+use Rattle.std.proofs.Common.{List, ℕ, ◌++◌}
 
 module _ (holds follows : List Cut → List ℕ → Type 0) (shows : (lines : List Cut) (text : List ℕ) → holds lines text → follows lines text)
     (limit : ℕ) (before after : LinkTells) where
@@ -13,6 +13,7 @@ module _ (holds follows : List Cut → List ℕ → Type 0) (shows : (lines : Li
     short = a.short;
     served = shows (cut_lines a.heard) a.text a.served;
     spoke = a.spoke;
+    faults = a.faults;
     over = a.over;
   }
 
@@ -21,8 +22,8 @@ module _ (holds follows : List Cut → List ℕ → Type 0) (shows : (lines : Li
     heard = t.heard;
     text = t.text;
     long = t.long;
-    served = shows (map cut (whole_lines (take limit t.heard))) t.text t.served;
-    spoke = t.spoke;
+    served = shows (lines_within limit t.heard) t.text t.served;
+    exchanged = t.exchanged;
   }
 
   pub LinkLost-weaker : LinkLost holds limit before after → LinkLost follows limit before after
@@ -45,4 +46,5 @@ module _ (holds follows : List Cut → List ℕ → Type 0) (shows : (lines : Li
     text = m.text;
     served = shows m.lines m.text m.served;
     spoke = m.spoke;
+    faults = m.faults;
   }

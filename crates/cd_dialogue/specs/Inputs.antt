@@ -1,23 +1,28 @@
 -- What the service of a whole input promises, by what holds of the lines that were served and of their replies.
-use Rattle.std.specs.Prelude.{◌≤◌, ◌<◌, ◌⊎◌, ℕ, List, ◌++◌, length, map, take}
+use Rattle.cd_dialogue.specs.Exchanges.{Exchanged}
 use Rattle.cd_io.specs.Causes.{Rose}
-use Rattle.cd_io.specs.Link.{LinkTells, HasEnded, Spoke}
+use Rattle.cd_io.specs.Link.{HasEnded, LinkTells, Spoke}
 use Rattle.cd_sock.specs.Lines.{BeginsWith, Cut, cut, cut_lines, whole_lines}
+use Rattle.std.specs.Prelude.{List, length, map, take, ℕ, ◌++◌, ◌<◌, ◌≡◌, ◌≤◌, ◌⊎◌}
 
 -- the lines that end with a newline in what is taken of an input: no more than so many bytes
 abbrev pub lines_within : ℕ → List ℕ → List Cut
 lines_within limit heard = map cut (whole_lines (take limit heard))
 
--- an input is over: nothing is left of it, or nothing came for a while
+-- no call was quiet
+abbrev pub WasNeverQuiet : LinkTells → LinkTells → Type 0
+WasNeverQuiet before after = after.quiets ≡ before.quiets
+
+-- an input is over: nothing is left of it and no call was quiet, or nothing came for a while
 abbrev pub IsOver : LinkTells → LinkTells → Type 0
-IsOver before after = HasEnded after ⊎ Rose before.quiets after.quiets
+IsOver before after = (HasEnded after × WasNeverQuiet before after) ⊎ Rose before.quiets after.quiets
 
 -- the first of the lines within the limit; the last line of an input, where it has no newline, is among them only where
 -- the input is over and no more came than is taken
 abbrev pub AreFirstOf : ℕ → LinkTells → LinkTells → List ℕ → List Cut → Type 0
 AreFirstOf limit before after heard lines =
-    BeginsWith (lines_within limit heard) lines
-    ⊎ ((length heard ≤ limit) × IsOver before after × BeginsWith (cut_lines heard) lines)
+    (WasNeverQuiet before after × BeginsWith (lines_within limit heard) lines)
+    ⊎ (IsOver before after × (length heard ≤ limit) × BeginsWith (cut_lines heard) lines)
 
 module _ (holds : List Cut → List ℕ → Type 0) (limit : ℕ) (before after : LinkTells) where
   -- all lines were served, and their replies said; nothing is left, or nothing came for a while
@@ -27,6 +32,7 @@ module _ (holds : List Cut → List ℕ → Type 0) (limit : ℕ) (before after 
     pub short : length heard ≤ limit
     pub served : holds (cut_lines heard) text
     pub spoke : Spoke heard text before after
+    pub faults : after.faults ≡ before.faults
     pub over : IsOver before after
 
   -- more came than is taken; the lines that end in what is taken were served, and their replies said
@@ -35,7 +41,17 @@ module _ (holds : List Cut → List ℕ → Type 0) (limit : ℕ) (before after 
     pub text : List ℕ
     pub long : limit < length heard
     pub served : holds (lines_within limit heard) text
+    pub exchanged : Exchanged heard text before after
+
+  -- the server closed the dialogue with the last of the lines that were served, and their replies were said
+  pub record ClosedEarly : Type 0 where
+    pub heard : List ℕ
+    pub lines : List Cut
+    pub first : AreFirstOf limit before after heard lines
+    pub text : List ℕ
+    pub served : holds lines text
     pub spoke : Spoke heard text before after
+    pub faults : after.faults ≡ before.faults
 
   -- the link failed; the first lines were served, and of their replies the beginning was said
   pub record LinkLost : Type 0 where
@@ -56,3 +72,4 @@ module _ (holds : List Cut → List ℕ → Type 0) (limit : ℕ) (before after 
     pub text : List ℕ
     pub served : holds lines text
     pub spoke : Spoke heard text before after
+    pub faults : after.faults ≡ before.faults

@@ -1,3 +1,4 @@
 pub mod Transcripts
 pub mod Events
 pub mod Determined
+mod Steady
