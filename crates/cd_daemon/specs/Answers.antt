@@ -25,7 +25,7 @@ use Rattle.cd_value.specs.declared.data.Offered.TheVariants.{Kept}
 use Rattle.cd_value.specs.declared.data.Offered.{Offered}
 use Rattle.cd_value.specs.declared.data.ValueList.{ValueList}
 use Rattle.std.specs.List.{find}
-use Rattle.std.specs.Prelude.{Bool, Err, List, None, Ok, Option, Result, Some, [], if◌then◌else◌, is_some, length, map, nat_eq, nat_le, not, slice_get, ℕ, ◌&&◌, ◌||◌, ◌∷◌}
+use Rattle.std.specs.Prelude.{Bool, Err, List, None, Ok, Option, Result, Some, [], if◌then◌else◌, is_some, length, map, nat_eq, nat_le, not, slice_get, ℕ, ◌&&◌, ◌||◌}
 
 -- the answer, unless a stop came before
 abbrev pub unless_stopped : {A : Type 0} → History → A → Result A Stopping

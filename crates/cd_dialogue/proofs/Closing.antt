@@ -11,7 +11,7 @@ use Rattle.cd_dialogue.specs.declared.server.Next.{Next}
 use Rattle.cd_io.specs.Link.{LinkTells}
 use Rattle.cd_sock.specs.Lines.{BeginsWith, Cut, Takes, cut, whole_lines}
 use Rattle.std.proofs.Common.{List, Option, [], ap, append_assoc, drop, map, subst, sym, take, ℕ, ◌++◌, ◌∙◌, ◌≡◌}
-use Rattle.std.proofs.lemmas.List.{append-nil, take-append-drop}
+use Rattle.std.proofs.lemmas.List.{take-append-drop}
 use Rattle.std.specs.Option.{option_to_list}
 
 module _ {S : Type 0} (serves : Next → Cut → List ℕ → S → S → Type 0) (held held' : Cut) where

@@ -2,7 +2,7 @@
 use Rattle.cd_dialogue.specs.Exchanges.{Exchanged}
 use Rattle.cd_io.proofs.Speaking.{spoke_nothing, spoke_then}
 use Rattle.cd_io.specs.Link.{LinkTells}
-use Rattle.std.proofs.Common.{List, [], refl, subst, ℕ, ◌++◌, ◌∙◌, ◌≡◌}
+use Rattle.std.proofs.Common.{List, [], refl, subst, ℕ, ◌++◌, ◌∙◌}
 use Rattle.std.proofs.lemmas.List.{append-nil}
 
 pub exchanged_nothing : (link : LinkTells) → Exchanged [] [] link link

@@ -4,7 +4,7 @@ use Rattle.cd_dialogue.proofs.Closing.{closed_later}
 use Rattle.cd_dialogue.proofs.Exchanging.{exchanged_nothing}
 use Rattle.cd_dialogue.proofs.Going.{went_then}
 use Rattle.cd_dialogue.proofs.Serving.{closed_then, served_then, served_then_to}
-use Rattle.cd_dialogue.specs.Dialogues.{Broke, BrokeOff, Finished, GaveReplies, LeftOff, ServesInput, Steps, Waited, WasClosed, WentOn, ended_in}
+use Rattle.cd_dialogue.specs.Dialogues.{Broke, BrokeOff, Finished, LeftOff, ServesInput, Steps, Waited, WasClosed, WentOn, ended_in}
 use Rattle.cd_dialogue.specs.Inputs.{AllServed, AreFirstOf, ClosedEarly, IsOver, TooMuch}
 use Rattle.cd_dialogue.specs.Served.{ClosedAt, Served, ServedTo}
 use Rattle.cd_dialogue.specs.declared.ends.DialogueFault.TheVariants.{Link, Memory}
@@ -18,7 +18,7 @@ use Rattle.cd_io.proofs.Rises.{later_rose, rose_later}
 use Rattle.cd_io.proofs.Speaking.{spoke_then_nothing, spoke_then_said, still_ended}
 use Rattle.cd_io.specs.Link.{LinkTells, Spoke}
 use Rattle.cd_sock.specs.Lines.{BeginsWith, Cut, HasCut, cut, cut_lines, whole_lines}
-use Rattle.std.proofs.Common.{Err, IsErrAnd, List, Ok, Result, [], ap, append_assoc, arith, inl, inr, length, length-append, map, refl, subst, sym, take, ℕ, ◌++◌, ◌+◌, ◌-◌, ◌<◌, ◌∙◌, ◌≡◌, ◌≤◌, ◌⊎◌}
+use Rattle.std.proofs.Common.{Err, IsErrAnd, List, Ok, Result, [], ap, append_assoc, arith, inl, inr, length, length-append, map, refl, subst, sym, take, ℕ, ◌++◌, ◌+◌, ◌-◌, ◌∙◌, ◌≡◌, ◌⊎◌}
 use Rattle.std.proofs.Math.Seq.{take-append-add}
 use Rattle.std.proofs.lemmas.List.{append-nil}
 

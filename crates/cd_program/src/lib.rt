@@ -1,4 +1,5 @@
-//! The program `collectd`, as in collectd(1): what it hands to the run, what it writes on standard error, and its status.
+//! The program `collectd`, as in collectd(1): what it hands to the run, what it writes on standard error, and its
+//! status.
 //!
 //! - Stands on `cd_serve`, `cd_registry` and `cd_io`, and takes no handle.
 //! - Read first `specs/Program.antt`.
@@ -11,3 +12,6 @@ mod outcome;
 
 pub use machine::start;
 pub use outcome::{Outcome, run_words};
+
+#[cfg(test)]
+mod tests;

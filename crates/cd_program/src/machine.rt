@@ -44,8 +44,6 @@ fn serve_here(rt: &HostRuntime) -> Outcome {
 /// Serves, writes what is to be said on standard error, and gives the exit status.
 pub fn start(rt: &HostRuntime) -> ExitCode {
     let outcome = serve_here(rt);
-    if let Some(message) = &outcome.message {
-        let _ = rt.eprint(message.as_str());
-    }
+    let _ = outcome.tell(&mut rt.stderr());
     ExitCode::from(outcome.status)
 }

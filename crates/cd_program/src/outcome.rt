@@ -1,16 +1,18 @@
 //! What the program does over a world and a link.
-ghost use Rattle.std.specs.Prelude.{◌≡◌, ◌⊎◌, true, false, IfNone, IfOk, IfSome, map, string_bytes};
 ghost use Rattle.cd_io.specs.Causes.{Rose};
+ghost use Rattle.cd_program.specs.Program.{writer};
 ghost use Rattle.cd_serve.specs.Ends.{message_of, status_of};
 ghost use Rattle.cd_serve.specs.Promises.{IsWithin, Promises, is_lines};
 ghost use Rattle.cd_serve.specs.Shelf.{on_shelf};
-ghost use Rattle.cd_program.specs.Program.{writer};
+ghost use Rattle.std.specs.Io.KnownBytes.{Appends};
+ghost use Rattle.std.specs.Prelude.{IfNone, IfOk, IfSome, OnOk, false, map, string_bytes, true, ◌≡◌, ◌⊎◌};
 
 use cd_io::{Link, World};
 use cd_registry::{Kinds, Plug};
 use cd_serve::{End, Ran, Shelved, run, status, text_of};
 use cd_value::{Memory, Text};
 use std::alloc::Global;
+use std::io::{self, Write};
 use std::marker::Send;
 
 /// How the program ends: its exit status, and what it writes on standard error, which is none where memory was lacking
@@ -37,6 +39,19 @@ impl Outcome {
             status: status(&end),
             message,
             end,
+        }
+    }
+
+    /// Writes the message, where there is one. The program hands in standard error.
+    pub fn tell<W: Write>(&self, errors: &mut W) -> io::Result<()>
+        ensures message { OnOk result (IfSome self.now.message
+            (Appends (W.contents errors.old) (W.contents errors.new))) }
+        ensures none { IfNone self.now.message
+            (W.contents errors.new ≡ W.contents errors.old) }
+    {
+        match &self.message {
+            Some(message) => errors.write_all(message.as_str().as_bytes()),
+            None => Ok(()),
         }
     }
 }
