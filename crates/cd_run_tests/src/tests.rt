@@ -396,8 +396,8 @@ fn ends_well(ran: &RanOf<Telling, ()>, output: &[u8]) -> bool {
     }
 }
 
-/// `rt try --test --fail-alloc N` runs this with the Nth allocation failing: where that is one of the test's own, or the link
-/// couldn't keep what was said, the test ends with that, and else it passes.
+/// `rt try --test --fail-alloc N` runs this with the Nth allocation failing: where that is one of the test's own, or the
+/// link couldn't keep what was said, the test ends with that, and else it passes.
 #[test]
 fn five_lines_end_well_or_lack_memory(rt: HostRuntime) -> Result<(), Fail> {
     let alloc = rt.alloc();

@@ -1,8 +1,8 @@
 //! What the daemon of a run asks of the outside: moments, words of the dice, and calls of its first plug-in.
 //!
 //! One trait without bounds of its own stands before the clock, the dice and the plug-ins, so that the daemon is
-//! generic in one type alone. (A method of a trait can't hand on clocks or plug-ins whose traits ask that they may go to
-//! other threads.)
+//! generic in one type alone. (A method of a trait can't hand on clocks or plug-ins whose traits ask that they may go
+//! to other threads.)
 ghost use Rattle.cd_registry.specs.Told.{told_after};
 ghost use Rattle.cd_serve.specs.Shelf.{on_shelf, shown};
 ghost use Rattle.cd_serve.specs.Tells.{Pairs};
