@@ -1,12 +1,12 @@
 //! What the program does over a world and a link.
-ghost use Rattle.std.specs.Prelude.{◌≡◌, ◌⊎◌, true, false, IfNone, IfOk, IfSome, map, string_bytes};
+ghost use Rattle.std.specs.Prelude.{◌≡◌, ◌⊎◌, true, false, IfNone, IfOk, IfSome, OnErr, OnOk, map, string_bytes};
 ghost use Rattle.cd_io.specs.Causes.{Rose};
 ghost use Rattle.cd_serve.specs.Ends.{message_of, status_of};
 ghost use Rattle.cd_serve.specs.Promises.{IsWithin, Promises, is_lines};
 ghost use Rattle.cd_serve.specs.Shelf.{on_shelf};
 ghost use Rattle.cd_program.specs.Program.{writer};
 
-use cd_io::{Link, World};
+use cd_io::{Failed, Link, World};
 use cd_registry::{Kinds, Plug};
 use cd_serve::{End, Ran, Shelved, run, status, text_of};
 use cd_value::{Memory, Text};
@@ -38,6 +38,17 @@ impl Outcome {
             message,
             end,
         }
+    }
+}
+
+/// The end of a run after which the last replies were said, or couldn't be.
+pub(crate) fn end_after(end: End, finished: Result<(), Failed>) -> End
+    ensures ok { OnOk finished (result ≡ end) }
+    ensures err { OnErr finished (result ≡ End.LinkFault) }
+{
+    match finished {
+        Ok(()) => end,
+        Err(Failed) => End::LinkFault,
     }
 }
 

@@ -47,7 +47,7 @@ fn ran(
     let words = words(alloc, word)?;
     let plugs = shelf(alloc)?;
     let probes: Vec<ShelvedProbeOf<()>> = Vec::new(alloc);
-    let mut world = MemWorld::new((2_000_000_000 * SECOND, SECOND), (5, 3));
+    let mut world = MemWorld::new(alloc, (2_000_000_000 * SECOND, SECOND), (5, 3));
     let mut input = MemLink::new(alloc, bytes.to_vec(alloc)?, plan);
     let ran = run_of(
         alloc,
@@ -297,7 +297,7 @@ fn boxed_plug_in_comes_back(rt: HostRuntime) -> Result<(), Fail> {
         object,
     })?;
     let probes: Vec<ShelvedProbeOf<Box<dyn Probe + Send>>> = Vec::new(alloc);
-    let mut world = MemWorld::new((0, 1), (0, 1));
+    let mut world = MemWorld::new(alloc, (0, 1), (0, 1));
     let mut input = MemLink::new(
         alloc,
         b"PUTVAL h/p/derive 1:5\n".to_vec(alloc)?,
