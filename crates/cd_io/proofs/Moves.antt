@@ -1,6 +1,6 @@
 -- What is told over two calls, one after another.
 use Rattle.std.proofs.Common.{ℕ, List, [], ◌++◌, Option, None, Some, refl, sym, ◌∙◌, ap, append_assoc, append-nil}
-use Rattle.cd_io.specs.Told.{Moves, Stays, Grows, Loses, Adds}
+use Rattle.cd_io.specs.Told.{Adds, Grows, Loses, Moves}
 
 -- two moves, one after the other, are a move by any step that they make together
 pub moves_then : {A : Type 0} (first second both : A → A → Type 0) (old mid new : Option A)
@@ -13,10 +13,6 @@ moves_then first second both (Some x) None (Some z) joined h k = absurd k
 moves_then first second both (Some x) (Some y) (Some z) joined h k = joined x y z h k
 
 -- no call
-pub stays_none : {A : Type 0} (told : Option A) → Stays told told
-stays_none None = tt
-stays_none (Some x) = refl
-
 pub grows_none : (told : Option (List ℕ)) → Grows [] told told
 grows_none None = tt
 grows_none (Some x) = simp append-nil
@@ -30,9 +26,6 @@ adds_none None = tt
 adds_none (Some x) = simp append-nil
 
 -- two calls of a kind
-pub stays_more : {A : Type 0} (old mid new : Option A) → Stays old mid → Stays mid new → Stays old new
-stays_more old mid new = moves_then _ _ _ old mid new (λ x y z h k. k ∙ h)
-
 pub grows_more : (more most : List ℕ) (old mid new : Option (List ℕ))
     → Grows more old mid → Grows most mid new → Grows (more ++ most) old new
 grows_more more most old mid new =
@@ -47,25 +40,3 @@ pub adds_more : {A : Type 0} (more most : List A) (old mid new : Option (List A)
     → Adds more old mid → Adds most mid new → Adds (more ++ most) old new
 adds_more {A = A} more most old mid new =
     moves_then _ _ _ old mid new (λ x y z h k. k ∙ ap (λ (w : List A). w ++ most) h ∙ append_assoc x more most)
-
--- a call that leaves what is told, after or before one that doesn't
-pub grows_stays : (more : List ℕ) (old mid new : Option (List ℕ)) → Grows more old mid → Stays mid new → Grows more old new
-grows_stays more old mid new = moves_then _ _ _ old mid new (λ x y z h k. k ∙ h)
-
-pub stays_grows : (more : List ℕ) (old mid new : Option (List ℕ)) → Stays old mid → Grows more mid new → Grows more old new
-stays_grows more old mid new =
-    moves_then _ _ _ old mid new (λ x y z h k. k ∙ ap (λ (w : List ℕ). w ++ more) h)
-
-pub loses_stays : (more : List ℕ) (old mid new : Option (List ℕ)) → Loses more old mid → Stays mid new → Loses more old new
-loses_stays more old mid new =
-    moves_then _ _ _ old mid new (λ x y z h k. h ∙ ap (λ (w : List ℕ). more ++ w) (sym k))
-
-pub stays_loses : (more : List ℕ) (old mid new : Option (List ℕ)) → Stays old mid → Loses more mid new → Loses more old new
-stays_loses more old mid new = moves_then _ _ _ old mid new (λ x y z h k. sym h ∙ k)
-
-pub adds_stays : {A : Type 0} (more : List A) (old mid new : Option (List A)) → Adds more old mid → Stays mid new → Adds more old new
-adds_stays more old mid new = moves_then _ _ _ old mid new (λ x y z h k. k ∙ h)
-
-pub stays_adds : {A : Type 0} (more : List A) (old mid new : Option (List A)) → Stays old mid → Adds more mid new → Adds more old new
-stays_adds {A = A} more old mid new =
-    moves_then _ _ _ old mid new (λ x y z h k. k ∙ ap (λ (w : List A). w ++ more) h)

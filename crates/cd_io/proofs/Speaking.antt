@@ -1,12 +1,11 @@
 -- What was heard and said over calls on a link, one after another.
-use Rattle.std.proofs.Common.{◌≡◌, ℕ, List, [], ◌∷◌, ◌++◌, length, take, drop, true, Option, None, Some, IfSome, sym, ap, ◌∙◌, subst, append_assoc, append-nil, arith}
+use Rattle.std.proofs.Common.{◌≡◌, ℕ, ◌+◌, true, false, List, [], ◌++◌, take, drop, Option, None, Some, IfSome, Result, Ok, Err, is_err, OnErr, refl, sym, ap, ◌∙◌, subst, append-nil, arith}
+use Rattle.std.proofs.Math.Seq.{take-add}
 use Rattle.std.proofs.lemmas.List.{take-append-drop}
-use Rattle.std.proofs.lemmas.Bool.{eqb-true}
-use Rattle.std.specs.Prelude.{◌==◌}
-use Rattle.cd_io.specs.Causes.{Rose}
+use Rattle.cd_io.specs.declared.traits.Failed.{Failed}
 use Rattle.cd_io.specs.Told.{Loses}
-use Rattle.cd_io.specs.Link.{LinkTells, HasEnded, Spoke, SaidInPart}
-use Rattle.cd_io.proofs.Moves.{grows_none, loses_none, grows_more, loses_more}
+use Rattle.cd_io.specs.Link.{HasEnded, LinkTells, SaidInPart, Says, SaysWhole, Spoke}
+use Rattle.cd_io.proofs.Moves.{grows_more, grows_none, loses_more, loses_none}
 use Rattle.cd_io.proofs.Rises.{later_rose}
 
 -- no call
@@ -51,32 +50,51 @@ spoke_then_nothing heard text first mid last s t =
     let S : List ℕ → Type 0 = λ h. Spoke h text first last in
     subst S (append-nil heard) (spoke_then_heard heard [] text first mid last s t)
 
--- the beginning of a text was said before the link failed
-pub said_before : (text done rest : List ℕ) (first mid last : LinkTells)
-    → text ≡ done ++ rest → Spoke [] done first mid → Spoke [] [] mid last → Rose mid.faults last.faults → SaidInPart text first last
-said_before text done rest first mid last parts s t rose = record {
-  written = done;
-  unwritten = rest;
-  parts = parts;
-  spoke = spoke_then_nothing [] done first mid last s t;
-  rose = later_rose first.faults mid.faults last.faults s.faults rose;
-}
+-- no call of `say`
+pub said_nothing : (text : List ℕ) (link : LinkTells) → SaysWhole 0 false text link link
+said_nothing text link = record { spoke = spoke_nothing link; given = refl; left = refl; quiets = refl; faults = refl }
 
 -- one more piece of a text was said
-pub said_more : (text done rest back : List ℕ) (count : ℕ)
-    → text ≡ done ++ rest → back ≡ drop count rest → text ≡ (done ++ take count rest) ++ back
-said_more text done rest back count parts is =
-    parts ∙ ap (λ (w : List ℕ). done ++ w) (sym (take-append-drop count rest))
-    ∙ sym (append_assoc done (take count rest) (drop count rest))
-    ∙ ap (λ (w : List ℕ). (done ++ take count rest) ++ w) (sym is)
+pub said_more : (text rest : List ℕ) (said count : ℕ) (first mid last : LinkTells) → rest ≡ drop said text
+    → SaysWhole said false text first mid → Says (Ok count) rest mid last → SaysWhole (said + count) false text first last
+said_more text rest said count first mid last is s t =
+    let S : List ℕ → Type 0 = λ w. Spoke [] w first last in
+    let parts : take said text ++ take count rest ≡ take (said + count) text =
+    ap (λ (w : List ℕ). take said text ++ take count w) is ∙ sym (take-add said count text) in
+    record {
+      spoke = subst S parts (spoke_then [] [] (take said text) (take count rest) first mid last s.spoke t.spoke);
+      given = t.given ∙ s.given;
+      left = t.left ∙ s.left;
+      quiets = t.quiets ∙ s.quiets;
+      faults = t.faults ∙ s.faults;
+    }
 
--- nothing of it is left
-pub all_said : (text done rest : List ℕ) (before after : LinkTells)
-    → text ≡ done ++ rest → (length rest == 0) ≡ true → Spoke [] done before after → Spoke [] text before after
-all_said text done [] before after parts empty s =
-    let S : List ℕ → Type 0 = λ t. Spoke [] t before after in subst S (sym (parts ∙ append-nil done)) s
-all_said text done (x ∷ rest) before after parts empty s =
-    absurd (let e : length (x ∷ rest) ≡ 0 = eqb-true (length (x ∷ rest)) 0 empty in omega (arith, e))
+-- then a call failed
+pub said_until : (text rest : List ℕ) (said : ℕ) (failed : Failed) (first mid last : LinkTells)
+    → SaysWhole said false text first mid → Says (Err failed) rest mid last → SaysWhole said true text first last
+said_until text rest said failed first mid last s t = record {
+  spoke = spoke_then_nothing [] (take said text) first mid last s.spoke t.spoke;
+  given = t.given ∙ s.given;
+  left = t.left ∙ s.left;
+  quiets = t.quiets ∙ s.quiets;
+  faults = (omega (arith, s.spoke.faults, t.spoke.faults), later_rose first.faults mid.faults last.faults s.spoke.faults t.faults.1);
+}
+
+-- the beginning of a text was said before the link failed
+pub said_in_part : (text : List ℕ) (said : ℕ) (first last : LinkTells) → SaysWhole said true text first last
+    → SaidInPart text first last
+said_in_part text said first last s = record {
+  written = take said text;
+  unwritten = drop said text;
+  parts = sym (take-append-drop said text);
+  spoke = s.spoke;
+  rose = s.faults.1;
+}
+
+pub error_in_part : {A : Type 0} (answer : Result A Failed) (text : List ℕ) (said : ℕ) (first last : LinkTells)
+    → SaysWhole said (is_err answer) text first last → OnErr answer (SaidInPart text first last)
+error_in_part (Ok x) text said first last s = tt
+error_in_part (Err failed) text said first last s = said_in_part text said first last s
 
 -- where nothing was left, nothing is left after no byte was taken
 pub nothing_left : (before after : Option (List ℕ)) → Loses [] before after

@@ -1,7 +1,14 @@
 pub mod Causes
 pub mod Datagrams
+pub mod Gathered
+pub mod Gathering
 pub mod Link
+pub mod MemFile
 pub mod MemLink
 pub mod MemPackets
+pub mod MemSource
+pub mod MemWorld
 pub mod Packets
+pub mod Source
 pub mod Told
+pub mod World

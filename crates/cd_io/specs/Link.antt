@@ -1,7 +1,7 @@
 -- What a link tells, and what calls on it do to that.
 use Rattle.std.specs.Prelude.{◌≡◌, ◌≤◌, ℕ, Bool, true, false, List, [], ◌++◌, take, Option, None, IfSome, Result, Ok, Err, is_err}
 use Rattle.cd_io.specs.declared.traits.Heard.{Heard}
-use Rattle.cd_io.specs.declared.traits.Heard.TheVariants.{Got, End, Quiet}
+use Rattle.cd_io.specs.declared.traits.Heard.TheVariants.{End, Got, Quiet}
 use Rattle.cd_io.specs.declared.traits.Failed.{Failed}
 use Rattle.cd_io.specs.Causes.{Counts, Rose}
 use Rattle.cd_io.specs.Told.{Grows, Loses}
@@ -59,8 +59,18 @@ pub record Hears (answer : Result Heard Failed) (buffer : List ℕ) (before afte
 -- what a call of `say` does that had this answer to a text
 pub record Says (answer : Result ℕ Failed) (text : List ℕ) (before after : LinkTells) : Type 0 where
   pub spoke : Spoke [] (take (said_count answer) text) before after
+  pub given : after.given ≡ before.given
+  pub left : after.left ≡ before.left
   pub quiets : after.quiets ≡ before.quiets
   pub faults : Counts (is_err answer) before.faults after.faults
+
+-- what calls of `say` do together of which one may have failed, and which said so many of the first bytes of a text
+pub record SaysWhole (count : ℕ) (failed : Bool) (text : List ℕ) (before after : LinkTells) : Type 0 where
+  pub spoke : Spoke [] (take count text) before after
+  pub given : after.given ≡ before.given
+  pub left : after.left ≡ before.left
+  pub quiets : after.quiets ≡ before.quiets
+  pub faults : Counts failed before.faults after.faults
 
 -- the beginning of a text was said before the link failed
 pub record SaidInPart (text : List ℕ) (before after : LinkTells) : Type 0 where

@@ -1,15 +1,12 @@
 -- What an object of the outside tells, before and after a call.
 use Rattle.std.specs.Prelude.{◌≡◌, ℕ, ◌+◌, ◌-◌, ◌^◌, ◌%◌, min, List, ◌++◌, Option, None, Some}
+use Rattle.std.specs.Option.{option_map}
 
 -- what is told moves by a step, or isn't told from then on; what wasn't told is never told
 abbrev pub Moves : {A : Type 0} → (A → A → Type 0) → Option A → Option A → Type 0
 Moves step old None = Unit {0}
 Moves step None (Some new) = ⊥
 Moves step (Some old) (Some new) = step old new
-
--- what is told stays as it was
-abbrev pub Stays : {A : Type 0} → Option A → Option A → Type 0
-Stays old new = Moves (λ x y. y ≡ x) old new
 
 -- these bytes were put behind those told
 abbrev pub Grows : List ℕ → Option (List ℕ) → Option (List ℕ) → Type 0
@@ -22,6 +19,10 @@ Loses bytes old new = Moves (λ x y. x ≡ bytes ++ y) old new
 -- these items were put behind those told
 abbrev pub Adds : {A : Type 0} → List A → Option (List A) → Option (List A) → Type 0
 Adds more old new = Moves (λ x y. y ≡ x ++ more) old new
+
+-- these bytes were taken from the front of those told, and the rest is told; what wasn't told is never told
+abbrev pub Takes : List ℕ → Option (List ℕ) → Option (List ℕ) → Type 0
+Takes bytes old new = old ≡ option_map (λ rest. bytes ++ rest) new
 
 -- a clock's next moment and its step, after a moment: the next is a step later, up to the last number of 64 bits
 abbrev pub clock_after : ℕ × ℕ → ℕ × ℕ

@@ -14,8 +14,8 @@ pub trait Packets: Send + Drop {
     /// What it tells: the datagrams given and left, where it tells them, and the counts of faults and of quiets.
     ghost packets_tell: { Self → PacketsTell };
 
-    /// Takes the next datagram whole into the front of the buffer; `Got(0)` is one without bytes. What the buffer has behind
-    /// it is left open.
+    /// Takes the next datagram whole into the front of the buffer; `Got(0)` is one without bytes. What the buffer has
+    /// behind it is left open.
     fn next(&mut self, buf: &mut [u8]) -> Result<Heard, Failed>
         requires { DATAGRAM_LIMIT ≤ length buf.old }
         ensures bound { heard_count result ≤ DATAGRAM_LIMIT }

@@ -1,8 +1,8 @@
 //! What the daemon asks of the outside.
-ghost use Rattle.std.specs.Prelude.{◌≡◌, ◌<◌, ◌≤◌, true, ℕ, length, Option, IfSome, IfOk, Ok};
+ghost use Rattle.std.specs.Prelude.{◌≡◌, ◌<◌, ◌≤◌, true, ℕ, length, Option, IfSome, IfOk, Ok, OnOk, is_err};
 ghost use Rattle.std.specs.Option.{option_map};
 ghost use Rattle.cd_io.specs.Causes.{Counts};
-ghost use Rattle.cd_io.specs.Link.{LinkTells, Hears, Says, heard_count};
+ghost use Rattle.cd_io.specs.Link.{heard_count, Hears, LinkTells, Says, SaysWhole};
 ghost use Rattle.cd_io.specs.Told.{clock_after, dice_after};
 
 use std::marker::Send;
@@ -49,6 +49,24 @@ pub trait Link: Send + Drop {
         ensures bound { IfOk result (λ n. n ≤ length text.now) }
         ensures some { IfOk result (λ n. 0 < length text.now → 0 < n) }
         ensures says { Says result text.now (link_tells self.old) (link_tells self.new) };
+
+    /// Says a text to the peer: it is offered in one piece, and again from the first byte that wasn't taken. Answers how
+    /// many of its bytes were said, which are all where no call failed.
+    fn say_whole(&mut self, text: &[u8]) -> (usize, Result<(), Failed>)
+        ensures bound { result.0 ≤ length text.now }
+        ensures whole { OnOk result.1 (result.0 ≡ length text.now) }
+        ensures says { SaysWhole result.0 (is_err result.1) text.now
+            (link_tells self.old) (link_tells self.new) }
+    {
+        let mut said = 0;
+        while said < text.len() {
+            match self.say(&text[said..]) {
+                Ok(count) => said += count,
+                Err(failed) => return (said, Err(failed)),
+            }
+        }
+        (said, Ok(()))
+    }
 }
 
 /// A clock. Moments are in units of 2^-30 seconds.
@@ -85,31 +103,4 @@ pub trait Dice: Send + Drop {
     fn fork(&mut self) -> Self
         ensures equal { dice_pair result ≡ dice_pair self.old }
         ensures same { dice_pair self.new ≡ dice_pair self.old };
-}
-
-/// What hands out the objects of the outside.
-pub trait World: Drop {
-    /// The clocks that it makes.
-    type Clk: Clock;
-
-    /// The dice that it makes.
-    type Die: Dice;
-
-    /// The pair with which each clock that it makes begins, where it tells it.
-    ghost world_clock_pair: { Self → Option (ℕ × ℕ) };
-
-    /// The pair with which all dice that it makes begin, where it tells it.
-    ghost world_dice_pair: { Self → Option (ℕ × ℕ) };
-
-    /// Makes a clock.
-    fn clock(&mut self) -> Self::Clk
-        ensures begins { Self.Clk.clock_pair result ≡ world_clock_pair self.old }
-        ensures clock_pair { world_clock_pair self.new ≡ world_clock_pair self.old }
-        ensures dice_pair { world_dice_pair self.new ≡ world_dice_pair self.old };
-
-    /// Makes dice.
-    fn dice(&mut self) -> Self::Die
-        ensures begins { Self.Die.dice_pair result ≡ world_dice_pair self.old }
-        ensures clock_pair { world_clock_pair self.new ≡ world_clock_pair self.old }
-        ensures dice_pair { world_dice_pair self.new ≡ world_dice_pair self.old };
 }

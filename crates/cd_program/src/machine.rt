@@ -1,6 +1,7 @@
 //! The program over what the machine gives it.
+use crate::outcome::end_after;
 use crate::{Outcome, run_words};
-use cd_io::{RealWorld, Streams};
+use cd_io::{Gathering, RealWorld, Streams};
 use cd_registry::Telling;
 use cd_serve::End;
 use std::env;
@@ -34,9 +35,11 @@ fn serve_here(rt: &HostRuntime) -> Outcome {
         return Outcome::of(alloc, End::Memory);
     };
     let mut world = RealWorld::new(*rt);
-    let mut input = Streams::new(rt.stdin(), rt.stdout());
-    match run_words(alloc, words.as_slice(), &mut world, &mut input, object) {
-        Some(ran) => Outcome::of(alloc, ran.end),
+    let mut input = Gathering::new(alloc, Streams::new(*rt, rt.stdin(), rt.stdout()));
+    let ran = run_words(alloc, words.as_slice(), &mut world, &mut input, object);
+    let (_, finished) = input.finish();
+    match ran {
+        Some(ran) => Outcome::of(alloc, end_after(ran.end, finished)),
         None => Outcome::of(alloc, End::Memory),
     }
 }

@@ -5,9 +5,9 @@ ghost use Rattle.cd_serve.specs.Ends.{message_of, status_of};
 ghost use Rattle.cd_serve.specs.Promises.{IsWithin, Promises, is_lines};
 ghost use Rattle.cd_serve.specs.Shelf.{on_shelf};
 ghost use Rattle.std.specs.Io.KnownBytes.{Appends};
-ghost use Rattle.std.specs.Prelude.{IfNone, IfOk, IfSome, OnOk, false, map, string_bytes, true, ◌≡◌, ◌⊎◌};
+ghost use Rattle.std.specs.Prelude.{IfNone, IfOk, IfSome, OnErr, OnOk, false, map, string_bytes, true, ◌≡◌, ◌⊎◌};
 
-use cd_io::{Link, World};
+use cd_io::{Failed, Link, World};
 use cd_registry::{Kinds, Plug};
 use cd_serve::{End, Ran, Shelved, run, status, text_of};
 use cd_value::{Memory, Text};
@@ -53,6 +53,17 @@ impl Outcome {
             Some(message) => errors.write_all(message.as_str().as_bytes()),
             None => Ok(()),
         }
+    }
+}
+
+/// The end of a run after which the last replies were said, or couldn't be.
+pub(crate) fn end_after(end: End, finished: Result<(), Failed>) -> End
+    ensures ok { OnOk finished (result ≡ end) }
+    ensures err { OnErr finished (result ≡ End.LinkFault) }
+{
+    match finished {
+        Ok(()) => end,
+        Err(Failed) => End::LinkFault,
     }
 }
 

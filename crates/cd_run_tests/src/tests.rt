@@ -61,7 +61,7 @@ fn ran_with(
 {
     let words = words(alloc, word)?;
     let probes: Vec<ShelvedProbeOf<()>> = Vec::new(alloc);
-    let mut world = MemWorld::new((2_000_000_000 * SECOND, SECOND), (5, 3));
+    let mut world = MemWorld::new(alloc, (2_000_000_000 * SECOND, SECOND), (5, 3));
     let mut input = MemLink::new(alloc, bytes.to_vec(alloc)?, plan);
     let ran = run_of(
         alloc,
@@ -357,7 +357,7 @@ fn boxed_objects_come_back(rt: HostRuntime) -> Result<(), Fail> {
         name: Text::of(alloc, "r")?,
         object: reader,
     })?;
-    let mut world = MemWorld::new((0, 1), (0, 1));
+    let mut world = MemWorld::new(alloc, (0, 1), (0, 1));
     let mut input = MemLink::new(
         alloc,
         b"PUTVAL h/p/derive 1:5\n".to_vec(alloc)?,

@@ -5,28 +5,32 @@ ghost use Rattle.cd_io.specs.Link.{counts_alone};
 use crate::{Failed, Heard, Link};
 use std::io::{self, ErrorKind, Read, Write};
 use std::marker::Send;
+use std::thread;
+use std::time::{Clock, Duration};
 
-/// How often an interrupted write is tried again.
-const TRIES: u32 = 1024;
+/// How many milliseconds pass before a call that would block is tried again.
+const PAUSE: u64 = 1;
 
 /// A reader and a writer as a link, as standard input and standard output. What is said is flushed at once.
 ///
-/// A read that would block, timed out or was interrupted is quiet; any other error of the reader, and each of
-/// the writer, is a fault.
+/// A call that was interrupted is tried again, and so is one that would block, after a pause of a millisecond. A read
+/// that timed out is quiet; any other error is a fault.
 #[derive(Drop)]
-pub struct Streams<R, W> {
+pub struct Streams<C, R, W> {
+    clock: C,
     reader: R,
     writer: W,
     faults: u64,
     quiets: u64,
 }
 
-impl<R: Read + Send + Drop, W: Write + Send + Drop> Streams<R, W> {
-    /// The link that hears from `reader` and says to `writer`.
-    pub fn new(reader: R, writer: W) -> Self
-        ensures { ⟦<Streams<R, W> as Link>⟧.link_tells result ≡ counts_alone 0 0 }
+impl<C: Clock + Send + Drop, R: Read + Send + Drop, W: Write + Send + Drop> Streams<C, R, W> {
+    /// The link that hears from `reader`, says to `writer` and waits by `clock`.
+    pub fn new(clock: C, reader: R, writer: W) -> Self
+        ensures { ⟦<Streams<C, R, W> as Link>⟧.link_tells result ≡ counts_alone 0 0 }
     {
         Streams {
+            clock,
             reader,
             writer,
             faults: 0,
@@ -35,14 +39,15 @@ impl<R: Read + Send + Drop, W: Write + Send + Drop> Streams<R, W> {
     }
 }
 
-impl<R: Read + Send + Drop, W: Write + Send + Drop> Link for Streams<R, W> {
+impl<C: Clock + Send + Drop, R: Read + Send + Drop, W: Write + Send + Drop> Link
+    for Streams<C, R, W> {
     ghost link_tells = { λ l. counts_alone l.faults l.quiets };
 
     fn hear(&mut self, buf: &mut [u8]) -> Result<Heard, Failed> {
-        match self.reader.read(buf) {
+        match read_some(&self.clock, &mut self.reader, buf) {
             Ok(0) => Ok(Heard::End),
             Ok(count) => Ok(Heard::Got(count)),
-            Err(error) if is_quiet(&error) => {
+            Err(error) if error.kind() == ErrorKind::TimedOut => {
                 self.quiets = self.quiets.saturating_add(1);
                 Ok(Heard::Quiet)
             }
@@ -51,34 +56,62 @@ impl<R: Read + Send + Drop, W: Write + Send + Drop> Link for Streams<R, W> {
     }
 
     fn say(&mut self, text: &[u8]) -> Result<usize, Failed> {
-        match write_some(&mut self.writer, text) {
+        match write_some(&self.clock, &mut self.writer, text) {
             Ok(taken) if taken > 0 || text.is_empty() => Ok(taken),
             _ => Err(Failed::counted(&mut self.faults)),
         }
     }
 }
 
-/// Whether an error says only that nothing came.
-fn is_quiet(error: &io::Error) -> bool {
-    matches!(
-        error.kind(),
-        ErrorKind::WouldBlock | ErrorKind::TimedOut | ErrorKind::Interrupted
-    )
+/// Whether a call that failed is to be tried again, which it waits for where that would block.
+fn is_passing<C: Clock>(clock: &C, error: &io::Error) -> bool {
+    match error.kind() {
+        ErrorKind::Interrupted => true,
+        ErrorKind::WouldBlock => {
+            thread::sleep(clock, Duration::from_millis(PAUSE));
+            true
+        }
+        _ => false,
+    }
+}
+
+/// Reads the next bytes into the front of the buffer, and answers how many.
+fn read_some<C: Clock, R: Read>(clock: &C, reader: &mut R, buf: &mut [u8]) -> io::Result<usize>
+    ensures { IfOk result (λ n. n ≤ length buf.new) }
+{
+    for _ in 0..u64::MAX {
+        match reader.read(buf) {
+            Err(error) if is_passing(clock, &error) => {}
+            answer => return answer,
+        }
+    }
+    Err(io::Error::from(ErrorKind::WouldBlock))
 }
 
 /// Writes the first bytes of a text, flushes them, and answers how many.
-fn write_some<W: Write>(writer: &mut W, text: &[u8]) -> io::Result<usize>
+fn write_some<C: Clock, W: Write>(clock: &C, writer: &mut W, text: &[u8]) -> io::Result<usize>
     ensures { IfOk result (λ n. n ≤ length text.now) }
 {
-    for _ in 0..TRIES {
+    for _ in 0..u64::MAX {
         match writer.write(text) {
             Ok(taken) => {
-                writer.flush()?;
+                flush_all(clock, writer)?;
                 return Ok(taken);
             }
-            Err(error) if error.kind() == ErrorKind::Interrupted => {}
+            Err(error) if is_passing(clock, &error) => {}
             Err(error) => return Err(error),
         }
     }
-    Err(io::Error::from(ErrorKind::Interrupted))
+    Err(io::Error::from(ErrorKind::WouldBlock))
+}
+
+/// Flushes what was written.
+fn flush_all<C: Clock, W: Write>(clock: &C, writer: &mut W) -> io::Result<()> {
+    for _ in 0..u64::MAX {
+        match writer.flush() {
+            Err(error) if is_passing(clock, &error) => {}
+            answer => return answer,
+        }
+    }
+    Err(io::Error::from(ErrorKind::WouldBlock))
 }

@@ -6,8 +6,8 @@ use std::marker::Send;
 use std::thread;
 use std::time::{self, Duration};
 
-/// The units of a moment in a second.
-const UNITS: u64 = 1 << 30;
+/// A second as a time or an interval, which are whole numbers of 2^-30 s.
+const SECOND: u64 = 1 << 30;
 
 /// The clock of a runtime, in units of 2^-30 seconds since 1970. It stands at `u64::MAX` past its end, and gives
 /// the last moment again where the runtime has none.
@@ -48,6 +48,6 @@ impl<R: time::Clock + Copy + Send + Drop> Clock for RealClock<R> {
 
 /// A time in units of 2^-30 seconds, at most `u64::MAX`.
 fn units_of(since: Duration) -> u64 {
-    let parts = u64::from(since.subsec_nanos()) * UNITS / 1_000_000_000;
-    since.as_secs().saturating_mul(UNITS).saturating_add(parts)
+    let parts = u64::from(since.subsec_nanos()) * SECOND / 1_000_000_000;
+    since.as_secs().saturating_mul(SECOND).saturating_add(parts)
 }

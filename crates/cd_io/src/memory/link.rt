@@ -1,6 +1,6 @@
 //! A link in memory.
-ghost use Rattle.std.specs.Prelude.{◌≡◌, ◌≤◌, ◌<◌, [], ℕ, length, None, Some, Ok, IfOk, is_err, MatchOption};
-ghost use Rattle.cd_io.specs.Link.{Hears, Says, heard_count, is_quiet};
+ghost use Rattle.std.specs.Prelude.{◌≡◌, ◌≤◌, ◌<◌, ◌-◌, ◌^◌, [], ℕ, length, None, Some, Ok, IfOk, is_err, MatchOption};
+ghost use Rattle.cd_io.specs.Link.{heard_count, Hears, is_quiet, Says};
 
 use crate::{Failed, Heard, Link};
 use std::alloc::Global;
@@ -25,6 +25,7 @@ impl LinkPlan {
         ensures failing_hears { result.failing_hears.items ≡ [] }
         ensures quiet_hears { result.quiet_hears.items ≡ [] }
         ensures failing_says { result.failing_says.items ≡ [] }
+        ensures piece_limit { result.piece_limit ≡ 2 ^ 64 - 1 }
     {
         LinkPlan {
             failing_hears: Vec::new(alloc),
@@ -53,7 +54,7 @@ pub struct MemLink {
 }
 
 impl MemLink {
-    ghost use Rattle.cd_io.specs.MemLink.{told_first, plan_of, hears_of, says_of};
+    ghost use Rattle.cd_io.specs.MemLink.{hears_of, plan_of, says_of, told_first};
 
     /// A link on which the peer has sent `input`.
     pub fn new(alloc: Global, input: Vec<u8>, plan: LinkPlan) -> Self
@@ -88,7 +89,7 @@ impl MemLink {
 
 // The clauses of the trait, and that just the calls of the plan fail or are quiet.
 impl Link for MemLink {
-    ghost use Rattle.cd_io.specs.MemLink.{tells_of, plan_of, hears_of, says_of, next_number, fails_to_hear, fails_to_say, is_planned_quiet, planned_count};
+    ghost use Rattle.cd_io.specs.MemLink.{fails_to_hear, fails_to_say, hears_of, is_planned_quiet, next_number, plan_of, planned_count, says_of, tells_of};
 
     ghost link_tells = { tells_of };
 
@@ -100,7 +101,8 @@ impl Link for MemLink {
 
         // The plan decides how the call goes.
         ensures fails { is_err result ≡ fails_to_hear (plan_of self.old) (hears_of self.old) }
-        ensures is_quiet { is_quiet result ≡ is_planned_quiet (plan_of self.old) (hears_of self.old) }
+        ensures is_quiet { is_quiet result
+            ≡ is_planned_quiet (plan_of self.old) (hears_of self.old) }
         ensures count { heard_count result ≡ planned_count self.old (length buf.old) }
         ensures plan { plan_of self.new ≡ plan_of self.old }
         ensures hears_next { hears_of self.new ≡ next_number (hears_of self.old) }

@@ -29,8 +29,8 @@ impl PacketsPlan {
     }
 }
 
-/// A source that gives some datagrams, one in each call, and then the end. Of one with more than `DATAGRAM_LIMIT` bytes it
-/// gives and tells so many.
+/// A source that gives some datagrams, one in each call, and then the end. Of one with more than `DATAGRAM_LIMIT` bytes
+/// it gives and tells so many.
 #[derive(Drop)]
 pub struct MemPackets {
     datagrams: Vec<Vec<u8>>,
@@ -43,11 +43,12 @@ pub struct MemPackets {
 }
 
 impl MemPackets {
-    ghost use Rattle.cd_io.specs.MemPackets.{told_first, plan_of, calls_of};
+    ghost use Rattle.cd_io.specs.MemPackets.{calls_of, plan_of, told_first};
 
     /// A source of some datagrams.
     pub fn new(datagrams: Vec<Vec<u8>>, plan: PacketsPlan) -> Self
-        ensures tells { ⟦<MemPackets as Packets>⟧.packets_tell result ≡ told_first (map (λ v. v.items) datagrams.items) }
+        ensures tells { ⟦<MemPackets as Packets>⟧.packets_tell result
+            ≡ told_first (map (λ v. v.items) datagrams.items) }
         ensures plan { plan_of result ≡ plan }
         ensures calls { calls_of result ≡ 0 }
     {
@@ -65,7 +66,7 @@ impl MemPackets {
 // The clauses of the trait, and that just the calls of the plan fail or are quiet.
 impl Packets for MemPackets {
     ghost use Rattle.cd_io.specs.MemLink.{next_number};
-    ghost use Rattle.cd_io.specs.MemPackets.{tells_of, plan_of, calls_of, fails, is_planned_quiet};
+    ghost use Rattle.cd_io.specs.MemPackets.{calls_of, fails, is_planned_quiet, plan_of, tells_of};
 
     ghost packets_tell = { tells_of };
 
@@ -76,7 +77,8 @@ impl Packets for MemPackets {
 
         // The plan decides how the call goes.
         ensures fails { is_err result ≡ fails (plan_of self.old) (calls_of self.old) }
-        ensures is_quiet { is_quiet result ≡ is_planned_quiet (plan_of self.old) (calls_of self.old) }
+        ensures is_quiet { is_quiet result
+            ≡ is_planned_quiet (plan_of self.old) (calls_of self.old) }
         ensures plan { plan_of self.new ≡ plan_of self.old }
         ensures calls_next { calls_of self.new ≡ next_number (calls_of self.old) }
     {

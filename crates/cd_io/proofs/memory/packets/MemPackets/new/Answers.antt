@@ -1,5 +1,4 @@
 use Rattle.std.proofs.Common.{List, ℕ, ap, Some, []}
-use Rattle.cd_io.specs.Packets.{PacketsTell}
 use Rattle.cd_io.proofs.Coming.{told_of}
 use Rattle.cd_io.proofs.memory.packets.MemPackets.new.Goals as goal
 

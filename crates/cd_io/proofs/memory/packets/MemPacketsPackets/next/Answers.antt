@@ -1,4 +1,4 @@
-use Rattle.std.proofs.Common.{◌≡◌, ◌<◌, length, get_or, arith, refl, ap, ◌∙◌}
+use Rattle.std.proofs.Common.{◌<◌, length, get_or, arith, refl, ap, ◌∙◌}
 use Rattle.cd_io.specs.Datagrams.{as_datagram}
 use Rattle.cd_io.proofs.Coming.{one_came}
 use Rattle.cd_io.proofs.memory.packets.MemPacketsPackets.next.Goals as goal

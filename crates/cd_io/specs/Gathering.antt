@@ -1,0 +1,29 @@
+-- What a gathering link keeps.
+use Rattle.std.specs.Prelude.{ℕ, ◌-◌, Bool, true, false, not, ◌&&◌, nat_le, List, drop, length, Result, Ok, Err}
+use Rattle.cd_io.specs.declared.gathering.Gathering.{Gathering}
+use Rattle.cd_io.specs.declared.traits.Failed.{Failed}
+use Rattle.cd_io.specs.declared.traits.Heard.{Heard}
+use Rattle.cd_io.specs.declared.traits.Heard.TheVariants.{End, Got, Quiet}
+
+-- what was said to it and not yet to the inner link
+abbrev pub kept_of : {L : Type 0} → Gathering L → List ℕ
+kept_of link = drop link.sent link.kept.items
+
+-- the inner link
+abbrev pub inner_of : {L : Type 0} → Gathering L → L
+inner_of link = link.link
+
+-- whether it says all at once, since the end or a quiet was heard
+abbrev pub is_through : {L : Type 0} → Gathering L → Bool
+is_through link = link.through
+
+-- a text is kept: there is room for it
+abbrev pub has_room : {L : Type 0} → Gathering L → List ℕ → Bool
+has_room link text = not link.through && nat_le (length text) (link.room - length link.kept.items)
+
+-- the end or a quiet was heard
+abbrev pub has_stopped : Result Heard Failed → Bool
+has_stopped (Ok (Got n)) = false
+has_stopped (Ok End) = true
+has_stopped (Ok Quiet) = true
+has_stopped (Err fault) = false

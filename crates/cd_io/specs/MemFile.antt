@@ -1,0 +1,14 @@
+-- What a file in memory shows.
+use Rattle.std.specs.Prelude.{List, map, drop, string_bytes, Option, Some, None, Result, Ok, Err, ℕ}
+use Rattle.cd_io.specs.declared.memory.file.MemFile.{MemFile}
+use Rattle.cd_io.specs.World.{after_opening, FileTells}
+
+-- its path, and the texts of its next openings
+abbrev pub shown : MemFile → FileTells
+shown file = record { path = string_bytes file.path; texts = map (λ v. v.items) (drop file.opened file.texts.items) }
+
+-- the files after a call that opened a path, or didn't
+abbrev pub after_answer : {S E : Type 0} → Result (Option S) E → List ℕ → List FileTells → List FileTells
+after_answer (Ok (Some source)) path files = after_opening path files
+after_answer (Ok None) path files = files
+after_answer (Err lacking) path files = files

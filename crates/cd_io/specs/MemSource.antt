@@ -1,0 +1,32 @@
+-- What a source in memory tells, and which calls on it fail.
+use Rattle.std.specs.Prelude.{ℕ, min, max, Bool, if◌then◌else◌, List, drop, length, Some}
+use Rattle.cd_io.specs.declared.memory.source.MemSource.{MemSource}
+use Rattle.cd_io.specs.declared.memory.source.SourcePlan.{SourcePlan}
+use Rattle.cd_io.specs.MemLink.{is_among}
+use Rattle.cd_io.specs.Source.{SourceTells}
+
+-- what a source in memory tells
+abbrev pub tells_of : MemSource → SourceTells
+tells_of source = record { left = Some (drop source.taken source.bytes.items); faults = source.faults }
+
+-- what it tells before the first call, where it gives these bytes
+abbrev pub told_first : List ℕ → SourceTells
+told_first bytes = record { left = Some bytes; faults = 0 }
+
+-- which calls fail, and how much one gives
+abbrev pub plan_of : MemSource → SourcePlan
+plan_of source = source.plan
+
+-- the number of the next call
+abbrev pub reads_of : MemSource → ℕ
+reads_of source = source.reads
+
+-- a call with this number fails
+abbrev pub fails : SourcePlan → ℕ → Bool
+fails plan number = is_among number plan.failing_reads.items
+
+-- how many bytes the next call gives for a buffer of this length
+abbrev pub planned_count : MemSource → ℕ → ℕ
+planned_count source room =
+    if fails source.plan source.reads then 0
+    else min (length (drop source.taken source.bytes.items)) (min room (max source.plan.piece_limit 1))

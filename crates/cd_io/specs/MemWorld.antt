@@ -1,0 +1,25 @@
+-- What a world in memory tells, and which calls of `file` on it fail.
+use Rattle.std.specs.Prelude.{ℕ, Bool, ◌||◌, List, map, Some, is_none}
+use Rattle.cd_io.specs.declared.memory.world.MemWorld.{MemWorld}
+use Rattle.cd_io.specs.MemFile.{shown}
+use Rattle.cd_io.specs.MemLink.{is_among}
+use Rattle.cd_io.specs.World.{FileTells, opening, WorldTells}
+
+-- what a world in memory tells of its files
+abbrev pub files_of : MemWorld → List FileTells
+files_of world = map shown world.files.items
+
+abbrev pub tells_of : MemWorld → WorldTells
+tells_of world = record { files = Some (files_of world); faults = world.faults; reading_faults = world.reading_faults }
+
+-- the calls of `file` that are to fail
+abbrev pub failing_of : MemWorld → List ℕ
+failing_of world = world.failing_files.items
+
+-- the number of the next call of `file`
+abbrev pub calls_of : MemWorld → ℕ
+calls_of world = world.calls
+
+-- the next call of `file` with this path fails: it is to fail, or nothing lies there
+abbrev pub fails : MemWorld → List ℕ → Bool
+fails world path = is_among world.calls world.failing_files.items || is_none (opening path (files_of world))

@@ -1,0 +1,174 @@
+//! Replies gathered, so that many go out in one piece.
+ghost use Rattle.std.specs.Prelude.{◌≡◌, ◌≤◌, ◌<◌, ◌||◌, ◌++◌, true, ℕ, [], drop, length, vec_capacity, Ok, IfOk, OnOk, is_err};
+ghost use Rattle.cd_io.specs.declared.gathering.TheConstants.{GATHER_LIMIT};
+ghost use Rattle.cd_io.specs.Gathered.{Finishes, Flushes, gathered};
+ghost use Rattle.cd_io.specs.Link.{heard_count, Hears, Says};
+
+use crate::{Failed, Heard, Link};
+use std::alloc::Global;
+
+/// How many bytes a gathering link keeps at most.
+pub const GATHER_LIMIT: usize = 65_536;
+
+/// A link over another that keeps what is said, and says it before it hears again, or where its room is full. From the
+/// first end or quiet on it keeps nothing. Where memory for its room is lacking, it keeps nothing at all.
+///
+/// What it says late may fail late: a call of `hear` fails where it can't say what is kept.
+#[derive(Drop)]
+pub struct Gathering<L> {
+    link: L,
+    kept: Vec<u8>,
+    sent: usize,
+    room: usize,
+    through: bool,
+    ghost within: { sent ≤ length kept.items },
+    ghost few: { length kept.items ≤ room },
+    ghost small: { room ≤ GATHER_LIMIT },
+    ghost reserved: { room ≤ vec_capacity kept },
+}
+
+impl<L> Gathering<L> {
+    ghost use Rattle.cd_io.specs.Gathering.{has_room, has_stopped, inner_of, is_through, kept_of};
+
+    /// Whether a text is to be kept, and there is room for it.
+    fn fits(&self, text: &[u8]) -> bool
+        ensures { result ≡ has_room self.now text.now }
+    {
+        !self.through && text.len() <= self.room - self.kept.len()
+    }
+
+    /// Keeps a text, for which there is room.
+    fn keep(&mut self, text: &[u8])
+        requires { has_room self.old text.now ≡ true }
+        ensures kept { kept_of self.new ≡ kept_of self.old ++ text.now }
+        ensures inner { inner_of self.new ≡ inner_of self.old }
+        ensures through { is_through self.new ≡ is_through self.old }
+    {
+        let _ = self.kept.extend_from_slice(text);
+    }
+
+    /// Forgets the first bytes of what is kept, which were said.
+    fn forget(&mut self, count: usize)
+        requires { count ≤ length (kept_of self.old) }
+        ensures kept { kept_of self.new ≡ drop count (kept_of self.old) }
+        ensures inner { inner_of self.new ≡ inner_of self.old }
+        ensures through { is_through self.new ≡ is_through self.old }
+    {
+        self.sent += count;
+        if self.sent == self.kept.len() {
+            self.kept.clear();
+            self.sent = 0;
+        }
+    }
+
+    /// Notes what was heard: after the end or a quiet nothing is kept any more.
+    fn note(&mut self, heard: Result<Heard, Failed>)
+        ensures kept { kept_of self.new ≡ kept_of self.old }
+        ensures inner { inner_of self.new ≡ inner_of self.old }
+        ensures through { is_through self.new ≡ (is_through self.old || has_stopped heard) }
+    {
+        if matches!(heard, Ok(Heard::End | Heard::Quiet)) {
+            self.through = true;
+        }
+    }
+}
+
+impl<L: Link> Gathering<L> {
+    ghost use Rattle.cd_io.specs.Gathering.{is_through, kept_of};
+
+    /// A gathering link over another, with nothing kept.
+    pub fn new(alloc: Global, link: L) -> Self
+        ensures tells { ⟦<Gathering<L> as Link>⟧.link_tells result
+            ≡ gathered [] (L.link_tells link) }
+        ensures kept { kept_of result ≡ [] }
+    {
+        let (kept, room) = match Vec::with_capacity(alloc, GATHER_LIMIT) {
+            Ok(kept) => (kept, GATHER_LIMIT),
+            Err(_) => (Vec::new(alloc), 0),
+        };
+        Gathering {
+            link,
+            kept,
+            sent: 0,
+            room,
+            through: false,
+        }
+    }
+
+    /// Says all that is kept to the inner link.
+    pub fn flush(&mut self) -> Result<(), Failed>
+        ensures kept { OnOk result (kept_of self.new ≡ []) }
+        ensures through { is_through self.new ≡ is_through self.old }
+        ensures flushes { Flushes (is_err result)
+            (⟦<Gathering<L> as Link>⟧.link_tells self.old)
+            (⟦<Gathering<L> as Link>⟧.link_tells self.new) }
+    {
+        let (count, said) = self.link.say_whole(&self.kept[self.sent..]);
+        self.forget(count);
+        said
+    }
+
+    /// Says all that is kept to the inner link, and gives it back.
+    pub fn finish(self) -> (L, Result<(), Failed>)
+        ensures { Finishes (is_err result.1)
+            (⟦<Gathering<L> as Link>⟧.link_tells self)
+            (L.link_tells result.0) }
+    {
+        let mut gathering = self;
+        let flushed = gathering.flush();
+        let Gathering { link, .. } = gathering;
+        (link, flushed)
+    }
+}
+
+// The clauses of the trait, and what is kept.
+impl<L: Link> Link for Gathering<L> {
+    ghost use Rattle.cd_io.specs.Gathering.{has_room, has_stopped, inner_of, is_through, kept_of};
+
+    ghost link_tells = { λ g. gathered (kept_of g) (L.link_tells g.link) };
+
+    fn hear(&mut self, buf: &mut [u8]) -> Result<Heard, Failed>
+        requires { 0 < length buf.old }
+        ensures got { heard_count result ≤ length buf.new }
+        ensures some { (n : ℕ) → result ≡ Ok (Heard.Got n) → 0 < n }
+        ensures hears { Hears result buf.new
+            (gathered (kept_of self.old) (L.link_tells self.old.link))
+            (gathered (kept_of self.new) (L.link_tells self.new.link)) }
+        ensures kept { OnOk result (kept_of self.new ≡ []) }
+        ensures through { is_through self.new ≡ (is_through self.old || has_stopped result) }
+    {
+        let kept = &self.kept[self.sent..];
+        let (count, said) = self.link.say_whole(kept);
+        self.forget(count);
+        said?;
+        let heard = self.link.hear(buf);
+        self.note(heard);
+        heard
+    }
+
+    fn say(&mut self, text: &[u8]) -> Result<usize, Failed>
+        ensures bound { IfOk result (λ n. n ≤ length text.now) }
+        ensures some { IfOk result (λ n. 0 < length text.now → 0 < n) }
+        ensures says { Says result text.now
+            (gathered (kept_of self.old) (L.link_tells self.old.link))
+            (gathered (kept_of self.new) (L.link_tells self.new.link)) }
+        ensures kept { OnOk result (is_through self.old ≡ true → kept_of self.new ≡ []) }
+        ensures gathers { has_room self.old text.now ≡ true
+            → inner_of self.new ≡ inner_of self.old }
+        ensures few { length (kept_of self.new) ≤ GATHER_LIMIT }
+        ensures through { is_through self.new ≡ is_through self.old }
+    {
+        if self.fits(text) {
+            self.keep(text);
+            return Ok(text.len());
+        }
+        let (count, flushed) = self.link.say_whole(&self.kept[self.sent..]);
+        self.forget(count);
+        flushed?;
+        if self.fits(text) {
+            self.keep(text);
+            return Ok(text.len());
+        }
+        self.link.say(text)
+    }
+}
