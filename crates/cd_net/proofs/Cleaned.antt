@@ -1,0 +1,77 @@
+-- The texts of a packet without a refusal make an identifier.
+use Rattle.std.proofs.Common.{◌≡◌, ℕ, Bool, true, false, cond, not, ◌||◌, List, [], ◌∷◌, length, drop, map, Some, None, refl, sym, ap, ◌∙◌, arith}
+use Rattle.std.specs.Prelude.{nat_le}
+use Rattle.std.specs.List.{list_any, list_all}
+use Rattle.std.proofs.lemmas.Bool.{or_parts, and_parts, le-leb, ltb-false, not-false}
+use Rattle.std.proofs.lemmas.Bool.Decides.{nat_tests}
+use Rattle.std.proofs.lemmas.List.{length-map}
+use Rattle.cd_value.specs.declared.data.DataSet.{DataSet}
+use Rattle.cd_value.specs.Clean.{clean_byte, clean_field}
+use Rattle.cd_value.specs.Identifier.{Fields, has_bad_field, has_long_field, has_slash, is_empty, is_field, is_identifier, is_long, is_type_byte}
+use Rattle.cd_value.proofs.Cleaned.{is_field-clean_field, slash-clean_field}
+use Rattle.cd_net.specs.declared.item.ItemRefusal.{ItemRefusal}
+use Rattle.cd_net.specs.declared.item.ItemRefusal.TheVariants.{NotText, BadField}
+use Rattle.cd_net.specs.Clean.{cleaned, is_replaced}
+use Rattle.cd_net.specs.InForce.{InForce}
+use Rattle.cd_net.specs.Items.{clean_texts}
+use Rattle.cd_net.specs.Refusals.{are_texts, are_times, first_refusal, list_tests, texts_of}
+use Rattle.cd_net.proofs.Texts.{cleaned-kept}
+
+-- a text that isn't too long isn't cut
+uncut : (slash : Bool) (text : List ℕ) → is_long text ≡ false → clean_field slash text ≡ cleaned slash text
+uncut slash text short =
+    let fits : nat_le (length (map (clean_byte slash) text)) 127 ≡ true
+    = ap (λ n. nat_le n 127) (length-map text (clean_byte slash)) ∙ le-leb (length text) 127 (ltb-false 127 (length text) short) in
+    rw fits refl
+
+field_clean : (slash : Bool) (text : List ℕ) → is_long text ≡ false → is_field (cleaned slash text) ≡ true
+field_clean slash text short = ap is_field (sym (uncut slash text short)) ∙ is_field-clean_field slash text
+
+slash_clean : (text : List ℕ) → is_long text ≡ false → has_slash (cleaned true text) ≡ false
+slash_clean text short = ap has_slash (sym (uncut true text short)) ∙ slash-clean_field true text refl
+
+empty_clean : (slash : Bool) (text : List ℕ) → is_empty text ≡ false → is_empty (cleaned slash text) ≡ false
+empty_clean slash [] h = h
+empty_clean slash (byte ∷ text) h = refl
+
+type_byte : (byte : ℕ) → is_type_byte byte ≡ true → is_replaced false byte ≡ false
+type_byte byte h = grind (arith, nat_tests)
+
+type_clean : (text : List ℕ) → list_all is_type_byte text ≡ true → list_any (is_replaced false) text ≡ false
+type_clean [] h = refl
+type_clean (byte ∷ text) h =
+    let both = and_parts (is_type_byte byte) (list_all is_type_byte text) h in
+    rw (type_byte byte both.0, type_clean text both.1) refl
+
+-- a type without another character than a type's stays
+pub type_stays : (texts : Fields) → has_bad_field texts ≡ false → cleaned false texts.type_name ≡ texts.type_name
+type_stays texts good =
+    let bad = or_parts (is_empty texts.host || is_empty texts.plugin || is_empty texts.type_name) (not (list_all is_type_byte texts.type_name)) good in
+    cleaned-kept false texts.type_name (type_clean texts.type_name (not-false (list_all is_type_byte texts.type_name) bad.1))
+
+pub is_identifier-clean_texts : (texts : Fields) → has_bad_field texts ≡ false → has_long_field texts ≡ false → is_identifier (clean_texts texts) ≡ true
+is_identifier-clean_texts texts good short =
+    let bad3 = or_parts (is_empty texts.host || is_empty texts.plugin || is_empty texts.type_name) (not (list_all is_type_byte texts.type_name)) good in
+    let bad2 = or_parts (is_empty texts.host || is_empty texts.plugin) (is_empty texts.type_name) bad3.0 in
+    let bad1 = or_parts (is_empty texts.host) (is_empty texts.plugin) bad2.0 in
+    let long4 = or_parts (is_long texts.host || is_long texts.plugin || is_long texts.plugin_instance || is_long texts.type_name) (is_long texts.type_instance) short in
+    let long3 = or_parts (is_long texts.host || is_long texts.plugin || is_long texts.plugin_instance) (is_long texts.type_name) long4.0 in
+    let long2 = or_parts (is_long texts.host || is_long texts.plugin) (is_long texts.plugin_instance) long3.0 in
+    let long1 = or_parts (is_long texts.host) (is_long texts.plugin) long2.0 in
+    let type_bytes : list_all is_type_byte texts.type_name ≡ true = not-false (list_all is_type_byte texts.type_name) bad3.1 in
+    let type_kept : cleaned false texts.type_name ≡ texts.type_name = type_stays texts good in
+    rw (
+      field_clean true texts.host long1.0,
+      field_clean true texts.plugin long1.1,
+      field_clean true texts.plugin_instance long2.1,
+      field_clean false texts.type_name long3.1,
+      field_clean false texts.type_instance long4.1,
+      empty_clean true texts.host bad1.0,
+      empty_clean true texts.plugin bad1.1,
+      empty_clean false texts.type_name bad2.1,
+      slash_clean texts.host long1.0,
+      slash_clean texts.plugin long1.1,
+      slash_clean texts.plugin_instance long2.1,
+      type_kept,
+      type_bytes,
+    ) refl

@@ -1,0 +1,5 @@
+pub mod Cleaned
+pub mod Decoding
+pub mod Fields
+pub mod Fitting
+pub mod Texts
