@@ -1,20 +1,15 @@
 -- The texts of a packet without a refusal make an identifier.
-use Rattle.std.proofs.Common.{◌≡◌, ℕ, Bool, true, false, cond, not, ◌||◌, List, [], ◌∷◌, length, drop, map, Some, None, refl, sym, ap, ◌∙◌, arith}
+use Rattle.std.proofs.Common.{◌≡◌, ℕ, Bool, true, false, not, ◌||◌, List, [], ◌∷◌, length, map, refl, sym, ap, ◌∙◌, arith}
 use Rattle.std.specs.Prelude.{nat_le}
 use Rattle.std.specs.List.{list_any, list_all}
 use Rattle.std.proofs.lemmas.Bool.{or_parts, and_parts, le-leb, ltb-false, not-false}
 use Rattle.std.proofs.lemmas.Bool.Decides.{nat_tests}
 use Rattle.std.proofs.lemmas.List.{length-map}
-use Rattle.cd_value.specs.declared.data.DataSet.{DataSet}
 use Rattle.cd_value.specs.Clean.{clean_byte, clean_field}
 use Rattle.cd_value.specs.Identifier.{Fields, has_bad_field, has_long_field, has_slash, is_empty, is_field, is_identifier, is_long, is_type_byte}
 use Rattle.cd_value.proofs.Cleaned.{is_field-clean_field, slash-clean_field}
-use Rattle.cd_net.specs.declared.item.ItemRefusal.{ItemRefusal}
-use Rattle.cd_net.specs.declared.item.ItemRefusal.TheVariants.{NotText, BadField}
 use Rattle.cd_net.specs.Clean.{cleaned, is_replaced}
-use Rattle.cd_net.specs.InForce.{InForce}
 use Rattle.cd_net.specs.Items.{clean_texts}
-use Rattle.cd_net.specs.Refusals.{are_texts, are_times, first_refusal, list_tests, texts_of}
 use Rattle.cd_net.proofs.Texts.{cleaned-kept}
 
 -- a text that isn't too long isn't cut

@@ -13,6 +13,8 @@ use Rattle.cd_net.specs.Packet.{AreParts, end_at, part_at, payload}
 use Rattle.cd_net.specs.InForce.{InForce, in_force}
 use Rattle.cd_net.specs.Carried.{with_field}
 use Rattle.cd_net.specs.Items.{IsDecoded, each_behind, outcome, outcome_behind, item_in, refusal_in, items_of, refused_of}
+use Rattle.cd_net.specs.Refusals.{set_in_force}
+use Rattle.cd_net.proofs.Cutting.{parts_once}
 use Rattle.cd_net.proofs.Fields.{in_force-push}
 
 cons-append : {A : Type 0} (o : Option A) (xs ys : List A) → cons_option o xs ++ ys ≡ cons_option o (xs ++ ys)
@@ -53,7 +55,7 @@ reads_none types global bytes fields items refused f i r =
 pub reads_more : (types : List DataSet) (global : ℕ) (bytes : List ℕ) (place : ℕ) (fields next : InForce) (items more : List Item) (refused again : List (ℕ × ItemRefusal)) (part : Part)
     (gave : Option (Result Item ItemRefusal))
     → Reads types global bytes place fields items refused → end_at bytes place ≡ None → part ≡ part_at bytes place
-    → gave ≡ outcome types global fields part.kind (payload bytes part)
+    → gave ≡ outcome (set_in_force types fields) global fields part.kind (payload bytes part)
     → next ≡ with_field part.kind (payload bytes part) fields
     → more ≡ items ++ option_to_list (item_in gave)
     → again ≡ refused ++ option_to_list (refusal_in part.place gave)
@@ -61,7 +63,7 @@ pub reads_more : (types : List DataSet) (global : ℕ) (bytes : List ℕ) (place
 reads_more types global bytes place fields next items more refused again part gave reads going part_is gave_is next_is more_is again_is =
     let before = reads.before in
     let here : gave ≡ outcome_behind types global bytes before part
-    = gave_is ∙ ap (λ (f : InForce). outcome types global f part.kind (payload bytes part)) reads.fields_are in
+    = gave_is ∙ ap (λ (f : InForce). outcome (set_in_force types f) global f part.kind (payload bytes part)) reads.fields_are in
     record {
       before = before ++ part ∷ [];
       goes_on = λ parts end cut. subst (λ (ps : List Part). AreParts bytes 0 ps end) (sym (append_assoc before (part ∷ []) parts)) (reads.goes_on (part ∷ parts) end (going, part_is, cut));
@@ -88,18 +90,7 @@ reads_all types global bytes place fields items refused end reads at_end =
       refused = reads.refused_are;
     }
 
--- ---- a packet is cut in one way, and says one thing
-
-pub parts_once : (bytes : List ℕ) (place : ℕ) (parts others : List Part) (end last : PacketEnd)
-    → AreParts bytes place parts end → AreParts bytes place others last → (others ≡ parts) × (last ≡ end)
-parts_once bytes place [] [] end last a b = (refl, cc)
-parts_once bytes place [] (q ∷ qs) end last a b = let none = b.0 in cc
-parts_once bytes place (p ∷ ps) [] end last a b = let none = a.0 in cc
-parts_once bytes place (p ∷ ps) (q ∷ qs) end last a b =
-    let same : q ≡ p = b.1 ∙ sym a.1 in
-    let rest : AreParts bytes (place + p.length) qs last = subst (λ (r : Part). AreParts bytes (place + r.length) qs last) same b.2 in
-    let both = parts_once bytes (place + p.length) ps qs end last a.2 rest in
-    (ap (λ (r : Part). r ∷ qs) same ∙ ap (λ (rs : List Part). p ∷ rs) both.0, both.1)
+-- ---- a packet says one thing
 
 pub decoded_once : (types : List DataSet) (global : ℕ) (bytes : List ℕ) (other decoded : Decoded)
     → IsDecoded types global bytes other → IsDecoded types global bytes decoded → other ≡ decoded

@@ -1,12 +1,18 @@
 -- A field carried forward is the one that looking back finds.
-use Rattle.std.proofs.Common.{◌≡◌, ℕ, ◌++◌, List, [], ◌∷◌, reverse, Option, Some, cond, Bool, true, false, refl, ap, ◌∙◌}
+use Rattle.std.specs.Prelude.{unwrap_or}
+use Rattle.std.proofs.Common.{◌≡◌, ℕ, ◌==◌, ◌++◌, List, [], ◌∷◌, reverse, Option, Some, cond, Bool, true, false, refl, sym, ap, ◌∙◌}
 use Rattle.std.proofs.lemmas.List.{reverse-append}
 use Rattle.std.specs.List.{find}
 use Rattle.std.specs.Option.{option_map_or}
 use Rattle.cd_net.specs.declared.packet.Part.{Part}
 use Rattle.cd_net.specs.Packet.{payload}
-use Rattle.cd_net.specs.InForce.{last_of, in_force}
-use Rattle.cd_net.specs.Carried.{with_field}
+use Rattle.cd_net.specs.Payload.{payload_text}
+use Rattle.cd_net.specs.declared.numbers.TheConstants.{TYPE}
+use Rattle.cd_value.specs.declared.data.DataSet.{DataSet}
+use Rattle.cd_types.specs.Types.{set_named}
+use Rattle.cd_net.specs.InForce.{InForce, last_of, in_force}
+use Rattle.cd_net.specs.Carried.{set_behind, with_field}
+use Rattle.cd_net.specs.Refusals.{set_in_force}
 
 -- behind one more part it is what that part says, where it is of the kind, and what it was before otherwise
 pub last_of-push : {A : Type 0} (is_kind : ℕ → Bool) (read : Part → A) (default : A) (before : List Part) (part : Part)
@@ -25,3 +31,16 @@ pub in_force-push : (bytes : List ℕ) (before : List Part) (part : Part)
     → in_force bytes (before ++ part ∷ []) ≡ with_field part.kind (payload bytes part) (in_force bytes before)
 unfolding with_field
 in_force-push bytes before part = simp (last_of-push)
+
+-- and the data set of the type
+pub set_is_in_force : (types : List DataSet) (kind : ℕ) (payload : List ℕ) (fields next : InForce) (set again : Option DataSet)
+    → set ≡ set_in_force types fields → next ≡ with_field kind payload fields → again ≡ set_behind types kind next set → again ≡ set_in_force types next
+unfolding with_field
+set_is_in_force types kind payload fields next set again set_is next_is again_is = again_is ∙ by (kind == TYPE) refl
+  where
+    by : (t : Bool) → (kind == TYPE) ≡ t → cond t (set_in_force types next) set ≡ set_in_force types next
+    by true e = refl
+    by false e =
+        let named : next.type_name ≡ cond (kind == TYPE) (payload_text payload) fields.type_name = ap (λ (f : InForce). f.type_name) next_is in
+        let same : next.type_name ≡ fields.type_name = named ∙ ap (λ (t : Bool). cond t (payload_text payload) fields.type_name) e in
+        set_is ∙ ap (λ (o : Option (List ℕ)). set_named (unwrap_or o []) types) (sym same)

@@ -1,12 +1,11 @@
 -- A values part that isn't refused has the fields of an identifier, and a list that fits the types.
-use Rattle.std.proofs.Common.{◌≡◌, ℕ, ◌==◌, Bool, true, false, cond, not, ◌&&◌, ◌||◌, List, [], ◌∷◌, ◌++◌, length, drop, Option, Some, None, Result, Ok, Err, refl, sym, ap, ◌∙◌, arith}
+use Rattle.std.proofs.Common.{◌≡◌, ℕ, ◌==◌, Bool, true, false, cond, not, ◌&&◌, ◌||◌, List, [], ◌∷◌, ◌++◌, length, drop, Option, Some, None, Result, refl, sym, ap, ◌∙◌, arith}
 use Rattle.std.specs.Prelude.{IfSome, is_none}
 use Rattle.std.specs.List.{cons_option, find, list_all, list_any, zip}
 use Rattle.std.specs.Str.{bytes_eq}
-use Rattle.std.specs.Option.{option_map_or}
 use Rattle.std.specs.Int.{w64, cast_signed}
 use Rattle.byteorder.specs.Endian.{big_number}
-use Rattle.std.proofs.lemmas.Bool.{or_parts, and_parts, and_from, not-true, not-false, eqb-true, eq-eqb, both_ways}
+use Rattle.std.proofs.lemmas.Bool.{or_parts, and_parts, and_from, not-false, eqb-true, eq-eqb, both_ways}
 use Rattle.cd_types.specs.Types.{fits, fits_set, fits_source, is_in_range, is_same_kind, kind_of, set_named}
 use Rattle.cd_value.specs.declared.data.DataSet.{DataSet}
 use Rattle.cd_value.specs.declared.data.DataSource.{DataSource}
@@ -22,10 +21,11 @@ use Rattle.cd_net.specs.declared.item.ItemRefusal.{ItemRefusal}
 use Rattle.cd_net.specs.declared.item.ItemRefusal.TheVariants.{NotText, BadField, Gauge, UnknownType, WrongCount, WrongKind}
 use Rattle.cd_net.specs.declared.numbers.TheConstants.{VALUES, MESSAGE}
 use Rattle.cd_net.specs.declared.packet.Part.{Part}
-use Rattle.cd_net.specs.InForce.{InForce}
+use Rattle.cd_net.specs.InForce.{InForce, in_force}
+use Rattle.cd_net.specs.Packet.{payload}
 use Rattle.cd_net.specs.Items.{each_behind, item_fits, item_in, items_of, list_of, list_outcome, note_outcome, or_refusal, outcome, outcome_behind}
-use Rattle.cd_net.specs.Payload.{code_of, codes_of, coded_value, coded_values, numbers_of, payload_text, payload_values}
-use Rattle.cd_net.specs.Refusals.{are_texts, are_times, first_refusal, is_code_of, is_gauge_code, list_tests, note_tests, sources_of, texts_of}
+use Rattle.cd_net.specs.Payload.{code_of, codes_of, coded_value, coded_values, numbers_of, payload_text}
+use Rattle.cd_net.specs.Refusals.{are_texts, are_times, first_refusal, is_code_of, is_gauge_code, list_tests, note_tests, set_in_force, sources_of, texts_of}
 use Rattle.cd_net.proofs.Cleaned.{type_stays}
 
 -- ---- nothing is refused
@@ -38,24 +38,24 @@ passes test tests h = by test.0 h
     by false e = (refl, e)
 
 -- what holds of a values part then
-pub record Passes (types : List DataSet) (texts : Fields) (codes : List ℕ) : Type 0 where
+pub record Passes (set : Option DataSet) (texts : Fields) (codes : List ℕ) : Type 0 where
   pub good : has_bad_field texts ≡ false
   pub short : has_long_field texts ≡ false
   pub no_gauge : list_any is_gauge_code codes ≡ false
-  pub known : is_none (set_named texts.type_name types) ≡ false
-  pub count : length codes ≡ length (sources_of types texts.type_name)
-  pub kinds : list_all is_code_of (zip codes (sources_of types texts.type_name)) ≡ true
+  pub known : is_none set ≡ false
+  pub count : length codes ≡ length (sources_of set)
+  pub kinds : list_all is_code_of (zip codes (sources_of set)) ≡ true
 
-pub list_passes : (types : List DataSet) (fields : InForce) (payload : List ℕ) → first_refusal (list_tests types fields payload) ≡ None → Passes types (texts_of fields) (codes_of payload)
-list_passes types fields payload h =
-    let tests = list_tests types fields payload in
+pub list_passes : (set : Option DataSet) (fields : InForce) (payload : List ℕ) → first_refusal (list_tests set fields payload) ≡ None → Passes set (texts_of fields) (codes_of payload)
+list_passes set fields payload h =
+    let tests = list_tests set fields payload in
     let texts = texts_of fields in
     let codes = codes_of payload in
-    let sources = sources_of types texts.type_name in
+    let sources = sources_of set in
     let first = passes (not (are_texts fields), NotText) (drop 1 tests) h in
     let second = passes (has_long_field texts || has_bad_field texts || not (are_times fields), BadField) (drop 2 tests) first.1 in
     let third = passes (list_any is_gauge_code codes, Gauge) (drop 3 tests) second.1 in
-    let fourth = passes (is_none (set_named texts.type_name types), UnknownType) (drop 4 tests) third.1 in
+    let fourth = passes (is_none set, UnknownType) (drop 4 tests) third.1 in
     let fifth = passes (not (length codes == length sources), WrongCount) (drop 5 tests) fourth.1 in
     let sixth = passes (not (list_all is_code_of (zip codes sources)), WrongKind) (drop 6 tests) fifth.1 in
     let apart = or_parts (has_long_field texts || has_bad_field texts) (not (are_times fields)) second.0 in
@@ -124,15 +124,15 @@ fits_named types list set is fit =
     ∙ and_from (bytes_eq set.name list.id.type_name && length set.sources == length list.values) (list_all pair_fits (zip set.sources list.values))
     (and_from (bytes_eq set.name list.id.type_name) (length set.sources == length list.values) named count) fit.kinds
 
-list_fits : (types : List DataSet) (global : ℕ) (fields : InForce) (payload : List ℕ) → first_refusal (list_tests types fields payload) ≡ None → fits types (list_of global fields payload) ≡ true
-list_fits types global fields payload h = by (set_named (texts_of fields).type_name types) refl (list_passes types fields payload h)
+list_fits : (types : List DataSet) (global : ℕ) (fields : InForce) (payload : List ℕ) → first_refusal (list_tests (set_in_force types fields) fields payload) ≡ None → fits types (list_of global fields payload) ≡ true
+list_fits types global fields payload h = by (set_in_force types fields) refl (list_passes (set_in_force types fields) fields payload h)
   where
-    by : (o : Option DataSet) → set_named (texts_of fields).type_name types ≡ o → Passes types (texts_of fields) (codes_of payload) → fits types (list_of global fields payload) ≡ true
-    by None is pass = absurd (both_ways (is_none (set_named (texts_of fields).type_name types)) pass.known (ap is_none is))
+    by : (o : Option DataSet) → set_in_force types fields ≡ o → Passes (set_in_force types fields) (texts_of fields) (codes_of payload) → fits types (list_of global fields payload) ≡ true
+    by None is pass = absurd (both_ways (is_none (set_in_force types fields)) pass.known (ap is_none is))
     by (Some set) is pass =
         let texts = texts_of fields in
         let codes = codes_of payload in
-        let sources : sources_of types texts.type_name ≡ set.sources = ap (λ (o : Option DataSet). option_map_or (λ s. s.sources) o []) is in
+        let sources : sources_of (set_in_force types fields) ≡ set.sources = ap sources_of is in
         fits_named types (list_of global fields payload) set
         (ap (λ (name : List ℕ). set_named name types) (type_stays texts pass.good) ∙ is)
         (values_fit codes set.sources (numbers_of payload) (pass.count ∙ ap length sources) (ap (λ (s : List DataSource). list_all is_code_of (zip codes s)) (sym sources) ∙ pass.kinds) pass.no_gauge)
@@ -140,14 +140,14 @@ list_fits types global fields payload h = by (set_named (texts_of fields).type_n
 -- ---- each item
 
 outcome_fits : (types : List DataSet) (global : ℕ) (fields : InForce) (kind : ℕ) (payload : List ℕ)
-    → IfSome (item_in (outcome types global fields kind payload)) (λ item. item_fits types item ≡ true)
+    → IfSome (item_in (outcome (set_in_force types fields) global fields kind payload)) (λ item. item_fits types item ≡ true)
 unfolding list_outcome note_outcome
 outcome_fits types global fields kind payload = by (kind == VALUES) (kind == MESSAGE)
   where
     Fits : Option (Result Item ItemRefusal) → Type 0
     Fits gave = IfSome (item_in gave) (λ item. item_fits types item ≡ true)
 
-    list : (o : Option ItemRefusal) → first_refusal (list_tests types fields payload) ≡ o → Fits (Some (or_refusal (items.List (list_of global fields payload)) o))
+    list : (o : Option ItemRefusal) → first_refusal (list_tests (set_in_force types fields) fields payload) ≡ o → Fits (Some (or_refusal (items.List (list_of global fields payload)) o))
     list None none = list_fits types global fields payload none
     list (Some refusal) some = tt
 
@@ -155,8 +155,8 @@ outcome_fits types global fields kind payload = by (kind == VALUES) (kind == MES
     note None item fit = fit
     note (Some refusal) item fit = tt
 
-    by : (values message : Bool) → Fits (cond values (Some (list_outcome types global fields payload)) (cond message (Some (note_outcome fields payload)) None))
-    by true message = list (first_refusal (list_tests types fields payload)) refl
+    by : (values message : Bool) → Fits (cond values (Some (list_outcome (set_in_force types fields) global fields payload)) (cond message (Some (note_outcome fields payload)) None))
+    by true message = list (first_refusal (list_tests (set_in_force types fields) fields payload)) refl
     by false true = note (first_refusal (note_tests fields (payload_text payload))) _ refl
     by false false = tt
 
@@ -173,4 +173,4 @@ all_behind {A} P f h before (part ∷ parts) = by (f before part) (h before part
 
 pub each_item_fits : (types : List DataSet) (global : ℕ) (bytes : List ℕ) (parts : List Part) → list_all (item_fits types) (items_of types global bytes parts) ≡ true
 each_item_fits types global bytes parts =
-    all_behind (item_fits types) (λ before part. item_in (outcome_behind types global bytes before part)) (λ before part. outcome_fits types global _ part.kind _) [] parts
+    all_behind (item_fits types) (λ before part. item_in (outcome_behind types global bytes before part)) (λ before part. outcome_fits types global (in_force bytes before) part.kind (payload bytes part)) [] parts

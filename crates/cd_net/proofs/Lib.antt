@@ -1,4 +1,5 @@
 pub mod Cleaned
+pub mod Cutting
 pub mod Decoding
 pub mod Fields
 pub mod Fitting

@@ -1,10 +1,12 @@
 -- The fields in force as they are carried forward.
 use Rattle.std.specs.Prelude.{ℕ, ◌==◌, List, Option, option_map, if◌then◌else◌}
+use Rattle.cd_value.specs.declared.data.DataSet.{DataSet}
 use Rattle.cd_net.specs.declared.field.Field.{Field}
 use Rattle.cd_net.specs.declared.carried.Carried.{Carried}
 use Rattle.cd_net.specs.declared.numbers.TheConstants.{HOST, PLUGIN, PLUGIN_INSTANCE, TYPE, TYPE_INSTANCE, TIME, INTERVAL, SEVERITY}
 use Rattle.cd_net.specs.Payload.{payload_text, payload_number}
 use Rattle.cd_net.specs.InForce.{InForce, is_time, is_interval, units_of}
+use Rattle.cd_net.specs.Refusals.{set_in_force}
 
 -- the text of a field, if it is one
 abbrev pub text_in : Option Field → Option (List ℕ)
@@ -39,3 +41,7 @@ with_field kind payload fields = record {
   interval = if is_interval kind then units_of INTERVAL kind payload else fields.interval;
   severity = if kind == SEVERITY then payload_number payload else fields.severity;
 }
+
+-- the data set of the type in force behind a part, from the one before it
+abbrev pub set_behind : List DataSet → ℕ → InForce → Option DataSet → Option DataSet
+set_behind types kind fields set = if kind == TYPE then set_in_force types fields else set

@@ -1,6 +1,6 @@
 -- The fields of a value list or a notification: of each kind of field, what the last part of that
 -- kind before it in the packet says.
-use Rattle.std.specs.Prelude.{ℕ, ◌==◌, ◌||◌, Bool, List, [], reverse, Option, Some, None, if◌then◌else◌}
+use Rattle.std.specs.Prelude.{ℕ, ◌==◌, ◌||◌, Bool, List, [], reverse, Option, Some, if◌then◌else◌}
 use Rattle.std.specs.List.{find}
 use Rattle.std.specs.Option.{option_map_or}
 use Rattle.cd_net.specs.declared.numbers.TheConstants.{HOST, PLUGIN, PLUGIN_INSTANCE, TYPE, TYPE_INSTANCE, TIME, TIME_HIGH_RESOLUTION, INTERVAL, INTERVAL_HIGH_RESOLUTION, SEVERITY}

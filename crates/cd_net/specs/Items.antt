@@ -20,7 +20,7 @@ use Rattle.cd_net.specs.Clean.{cleaned}
 use Rattle.cd_net.specs.Packet.{payload, AreParts}
 use Rattle.cd_net.specs.Payload.{payload_text, payload_values}
 use Rattle.cd_net.specs.InForce.{InForce, in_force}
-use Rattle.cd_net.specs.Refusals.{first_refusal, list_tests, note_tests, texts_of}
+use Rattle.cd_net.specs.Refusals.{first_refusal, list_tests, note_tests, set_in_force, texts_of}
 
 -- ---- an item
 
@@ -73,10 +73,10 @@ abbrev pub or_refusal : Item → Option ItemRefusal → Result Item ItemRefusal
 or_refusal item None = Ok item
 or_refusal item (Some refusal) = Err refusal
 
-unfoldable pub list_outcome : List DataSet → ℕ → InForce → List ℕ → Result Item ItemRefusal
-list_outcome types global fields payload =
+unfoldable pub list_outcome : Option DataSet → ℕ → InForce → List ℕ → Result Item ItemRefusal
+list_outcome set global fields payload =
     let list = list_of global fields payload in
-    or_refusal (items.List list) (first_refusal (list_tests types fields payload))
+    or_refusal (items.List list) (first_refusal (list_tests set fields payload))
 
 unfoldable pub note_outcome : InForce → List ℕ → Result Item ItemRefusal
 note_outcome fields payload =
@@ -84,16 +84,17 @@ note_outcome fields payload =
     let note = note_of fields (unwrap_or message []) in
     or_refusal (items.Note note) (first_refusal (note_tests fields message))
 
--- what a part gives under the fields in force, if it gives anything
-abbrev pub outcome : List DataSet → ℕ → InForce → ℕ → List ℕ → Option (Result Item ItemRefusal)
-outcome types global fields kind payload =
-    if kind == VALUES then Some (list_outcome types global fields payload)
+-- what a part gives under the fields in force and their data set, if it gives anything
+abbrev pub outcome : Option DataSet → ℕ → InForce → ℕ → List ℕ → Option (Result Item ItemRefusal)
+outcome set global fields kind payload =
+    if kind == VALUES then Some (list_outcome set global fields payload)
     else (if kind == MESSAGE then Some (note_outcome fields payload) else None)
 
 -- what a part gives behind some others
 abbrev pub outcome_behind : List DataSet → ℕ → List ℕ → List Part → Part → Option (Result Item ItemRefusal)
 outcome_behind types global bytes before part =
-    outcome types global (in_force bytes before) part.kind (payload bytes part)
+    let fields = in_force bytes before in
+    outcome (set_in_force types fields) global fields part.kind (payload bytes part)
 
 abbrev pub item_in : Option (Result Item ItemRefusal) → Option Item
 item_in (Some (Ok item)) = Some item

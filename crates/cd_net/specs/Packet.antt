@@ -56,6 +56,13 @@ AreParts bytes place (part ∷ parts) end =
     (end_at bytes place ≡ None) × (part ≡ part_at bytes place)
     × AreParts bytes (place + part.length) parts end
 
+-- there are parts into which the bytes are cut, up to an end, and no others
+pub record IsCutInOneWay (bytes : List ℕ) : Type 0 where
+  pub parts : List Part
+  pub end : PacketEnd
+  pub cut : AreParts bytes 0 parts end
+  pub only : (others : List Part) (last : PacketEnd) → AreParts bytes 0 others last → (others ≡ parts) × (last ≡ end)
+
 -- ---- what a part has that doesn't end its packet
 
 pub record IsWhole (bytes : List ℕ) (part : Part) : Type 0 where

@@ -43,9 +43,13 @@ has_time fields = not (unwrap_or fields.time 0 == 0)
 
 -- ---- a values part
 
--- the sources of a type, and none of an unknown one
-abbrev pub sources_of : List DataSet → List ℕ → List DataSource
-sources_of types name = option_map_or (λ set. set.sources) (set_named name types) []
+-- the data set of the type in force, if it is known
+abbrev pub set_in_force : List DataSet → InForce → Option DataSet
+set_in_force types fields = set_named (texts_of fields).type_name types
+
+-- the sources of a data set, and none where there is none
+abbrev pub sources_of : Option DataSet → List DataSource
+sources_of set = option_map_or (λ s. s.sources) set []
 
 abbrev pub is_gauge_code : ℕ → Bool
 is_gauge_code code = code == GAUGE_CODE
@@ -54,16 +58,16 @@ is_gauge_code code = code == GAUGE_CODE
 abbrev pub is_code_of : ℕ × DataSource → Bool
 is_code_of pair = pair.0 == code_of pair.1.kind
 
--- why a values part gives no list, in the order of the refusals
-abbrev pub list_tests : List DataSet → InForce → List ℕ → List (Bool × ItemRefusal)
-list_tests types fields payload =
+-- why a values part gives no list of a data set, in the order of the refusals
+abbrev pub list_tests : Option DataSet → InForce → List ℕ → List (Bool × ItemRefusal)
+list_tests set fields payload =
     let texts = texts_of fields in
     let codes = codes_of payload in
-    let sources = sources_of types texts.type_name in
+    let sources = sources_of set in
     (not (are_texts fields), NotText)
     ∷ (has_long_field texts || has_bad_field texts || not (are_times fields), BadField)
     ∷ (list_any is_gauge_code codes, Gauge)
-    ∷ (is_none (set_named texts.type_name types), UnknownType)
+    ∷ (is_none set, UnknownType)
     ∷ (not (length codes == length sources), WrongCount)
     ∷ (not (list_all is_code_of (zip codes sources)), WrongKind)
     ∷ (not (has_time fields), NoTime)

@@ -1,9 +1,10 @@
 //! The fields that parts carry forward to the values and messages behind them.
 ghost use Rattle.std.specs.Prelude.{◌≡◌, ℕ, List, [], length, nat_lt, unwrap_or};
 ghost use Rattle.std.specs.List.{list_all};
+ghost use Rattle.std.specs.Option.{option_copied};
 ghost use Rattle.cd_value.specs.Identifier.{has_bad_field, has_long_field, is_long, is_type_byte};
 ghost use Rattle.cd_net.specs.Items.{interval_or};
-ghost use Rattle.cd_net.specs.Refusals.{are_texts, are_times, has_time, texts_of};
+ghost use Rattle.cd_net.specs.Refusals.{are_texts, are_times, has_time, set_in_force, texts_of};
 ghost use Rattle.cd_net.specs.Carried.{shown, text_in, with_field};
 ghost use Rattle.cd_net.specs.InForce.{in_force};
 ghost use Rattle.cd_net.specs.Packet.{IsOfKind};
@@ -15,7 +16,8 @@ use crate::numbers::{
     TIME_HIGH_RESOLUTION, TYPE, TYPE_INSTANCE,
 };
 use crate::payload::{number, text, units_of_seconds};
-use cd_value::FIELD_LIMIT;
+use cd_types::TypesDb;
+use cd_value::{DataSet, FIELD_LIMIT};
 
 /// The fields in force. A text that isn't one, and a time of 2^34 seconds or more, is `None`.
 #[derive(Clone, Copy)]
@@ -49,6 +51,7 @@ impl<'a> Carried<'a> {
     }
 
     /// Takes the field of a part, if it has one.
+    #[tactic(auto, unfolding(crate::specs::Carried::with_field))]
     pub fn take(&mut self, kind: u16, payload: &'a [u8])
         requires { IsOfKind kind payload.now }
         ensures { shown self.new ≡ with_field kind payload.now (shown self.old) }
@@ -112,6 +115,13 @@ impl<'a> Carried<'a> {
         ensures { result ≡ has_time (shown self.now) }
     {
         self.time.unwrap_or(0) != 0
+    }
+
+    /// The data set of the type, if it is known.
+    pub fn set_in<'t>(&self, types: &'t TypesDb) -> Option<&'t DataSet>
+        ensures { option_copied result ≡ set_in_force types.now (shown self.now) }
+    {
+        types.get(text_or_empty(self.type_name))
     }
 
     /// The interval, or the global one.

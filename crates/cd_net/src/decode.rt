@@ -1,7 +1,8 @@
 //! The items of a packet, in one pass that carries the fields forward.
 ghost use Rattle.std.specs.Prelude.{◌≡◌, ◌++◌, IfOk, IsTrue, OnOk, option_to_list};
 ghost use Rattle.std.specs.List.{list_all};
-ghost use Rattle.cd_net.specs.Carried.{shown};
+ghost use Rattle.std.specs.Option.{option_copied};
+ghost use Rattle.cd_net.specs.Carried.{set_behind, shown};
 ghost use Rattle.cd_net.specs.Items.{IsDecoded, item_fits, item_in, outcome, refusal_in};
 ghost use Rattle.cd_net.specs.declared.item.Decoded.{Decoded};
 ghost use Rattle.cd_net.specs.Packet.{IsOfKind};
@@ -10,32 +11,50 @@ use crate::carried::Carried;
 use crate::cut::{part_at, payload_of};
 use crate::list::list;
 use crate::note::note;
-use crate::numbers::{MESSAGE, VALUES};
+use crate::numbers::{MESSAGE, TYPE, VALUES};
 use crate::{Decoded, DecodedItems, Item, ItemRefusal, Refusals};
 use cd_types::TypesDb;
-use cd_value::{Memory, Sequence};
+use cd_value::{DataSet, Memory, Sequence};
 use std::alloc::Global;
 
 /// An item, or why there is none.
 pub(crate) type Outcome = Result<Item, ItemRefusal>;
 
-/// What a part of a kind gives under the fields in force, if it gives anything.
+/// What a part of a kind gives under the fields in force and their data set, if it gives anything.
 fn outcome_of(
     alloc: Global,
     fields: &Carried<'_>,
     kind: u16,
     payload: &[u8],
-    types: &TypesDb,
+    set: Option<&DataSet>,
     interval: u64,
 ) -> Result<Option<Outcome>, Memory>
     requires { IsOfKind kind payload.now }
-    ensures { let fields = shown fields.now in
-        IfOk result (λ gave. gave ≡ outcome types.now interval fields kind payload.now) }
+    ensures { let set = option_copied set.entry in
+        let fields = shown fields.now in
+        IfOk result (λ gave. gave ≡ outcome set interval fields kind payload.now) }
 {
     match kind {
-        VALUES => Ok(Some(list(alloc, fields, payload, types, interval)?)),
+        VALUES => Ok(Some(list(alloc, fields, payload, set, interval)?)),
         MESSAGE => Ok(Some(note(alloc, fields, payload)?)),
         _ => Ok(None),
+    }
+}
+
+/// The data set of the type in force behind a part: looked up only where the part gave a type.
+fn set_behind<'t>(
+    kind: u16,
+    fields: &Carried<'_>,
+    types: &'t TypesDb,
+    set: Option<&'t DataSet>,
+) -> Option<&'t DataSet>
+    ensures { let set = option_copied set.entry in
+        option_copied result ≡ set_behind types.now kind (shown fields.now) set }
+{
+    if kind == TYPE {
+        fields.set_in(types)
+    } else {
+        set
     }
 }
 
@@ -71,6 +90,7 @@ pub fn items(alloc: Global, bytes: &[u8], types: &TypesDb, interval: u64) -> Res
     let mut items = Sequence::new(alloc);
     let mut refused = Sequence::new(alloc);
     let mut fields = Carried::new();
+    let mut set = fields.set_in(types);
     let mut place = 0;
     loop {
         let part = match part_at(bytes, place) {
@@ -84,9 +104,10 @@ pub fn items(alloc: Global, bytes: &[u8], types: &TypesDb, interval: u64) -> Res
             }
         };
         let payload = payload_of(bytes, &part);
-        let gave = outcome_of(alloc, &fields, part.kind, payload, types, interval)?;
+        let gave = outcome_of(alloc, &fields, part.kind, payload, set, interval)?;
         keep(&mut items, &mut refused, part.place, gave)?;
         fields.take(part.kind, payload);
+        set = set_behind(part.kind, &fields, types, set);
         place += part.length as usize;
     }
 }

@@ -14,6 +14,7 @@ mod cut;
 mod decode;
 mod field;
 mod item;
+mod laws;
 mod list;
 mod note;
 mod numbers;
@@ -23,10 +24,11 @@ mod payload;
 pub use cut::parts;
 pub use decode::items;
 pub use item::{Decoded, DecodedItems, Item, ItemRefusal, Refusals};
+pub use laws::each_packet_is_cut_in_one_way;
 pub use numbers::{
     ABSOLUTE_CODE, COUNTER_CODE, DERIVE_CODE, ENCRYPTION, FAILURE_CODE, GAUGE_CODE, HOST, INTERVAL,
     INTERVAL_HIGH_RESOLUTION, MESSAGE, OKAY_CODE, PLUGIN, PLUGIN_INSTANCE, SECONDS_LIMIT, SEVERITY,
-    SIGNATURE, TIME, TIME_HIGH_RESOLUTION, TYPE, TYPE_INSTANCE, VALUES, WARNING_CODE,
+    TIME, TIME_HIGH_RESOLUTION, TYPE, TYPE_INSTANCE, VALUES, WARNING_CODE,
 };
 pub use packet::{PacketEnd, Part, PartList, Parts};
 

@@ -2,7 +2,6 @@
 ghost use Rattle.std.specs.Option.{option_copied};
 ghost use Rattle.std.specs.Prelude.{◌≡◌, ◌==◌, ◌≤◌, ◌+◌, ◌*◌, false, is_none, length, not, IfOk, IsTrue};
 ghost use Rattle.std.specs.List.{list_all, list_any, zip};
-ghost use Rattle.cd_types.specs.Types.{set_named};
 ghost use Rattle.cd_value.specs.Identifier.{has_bad_field, has_long_field};
 ghost use Rattle.cd_net.specs.Carried.{shown};
 ghost use Rattle.cd_net.specs.Items.{clean_texts, list_outcome};
@@ -10,14 +9,15 @@ ghost use Rattle.cd_net.specs.Packet.{IsOfKind};
 ghost use Rattle.cd_net.specs.Payload.{code_of, codes_of, value_count, coded_value, payload_values};
 ghost use Rattle.cd_net.specs.Refusals.{are_texts, are_times, first_refusal, has_time, is_code_of, is_gauge_code, list_tests, sources_of, texts_of};
 
-use crate::carried::{Carried, field_or_empty, text_or_empty};
+use crate::carried::{Carried, field_or_empty};
 use crate::decode::Outcome;
 use crate::numbers::{ABSOLUTE_CODE, COUNTER_CODE, DERIVE_CODE, GAUGE_CODE, VALUES};
 use crate::payload::{codes_and_numbers, number};
 use crate::{Item, ItemRefusal};
 use byteorder::{ByteOrder, NetworkEndian};
-use cd_types::TypesDb;
-use cd_value::{DataSource, DsType, Identifier, Memory, Sequence, Value, ValueList, Values};
+use cd_value::{
+    DataSet, DataSource, DsType, Identifier, Memory, Sequence, Value, ValueList, Values,
+};
 use std::alloc::Global;
 
 /// The code of a kind of data source.
@@ -79,14 +79,16 @@ fn have_kinds(codes: &[u8], sources: &[DataSource]) -> bool
 }
 
 /// Why a values part gives no list, if so.
-fn list_refusal(fields: &Carried<'_>, payload: &[u8], types: &TypesDb) -> Option<ItemRefusal>
+fn list_refusal(fields: &Carried<'_>, payload: &[u8], set: Option<&DataSet>) -> Option<ItemRefusal>
     requires { IsOfKind VALUES payload.now }
-    ensures { result ≡ first_refusal (list_tests types.now (shown fields.now) payload.now) }
+    ensures { let set = option_copied set.entry in
+        result ≡ first_refusal (list_tests set (shown fields.now) payload.now) }
 {
     if !fields.are_texts() {
         return Some(ItemRefusal::NotText);
     }
-    // The lengths first: a text is then looked through only where it is short, so a packet takes a time linear in its bytes.
+    // The lengths first: a text is then looked through only where it is short, so a packet takes a
+    // time linear in its bytes.
     if fields.has_long_text() || fields.has_bad_text() || !fields.are_times() {
         return Some(ItemRefusal::BadField);
     }
@@ -94,7 +96,7 @@ fn list_refusal(fields: &Carried<'_>, payload: &[u8], types: &TypesDb) -> Option
     if has_gauge(codes) {
         return Some(ItemRefusal::Gauge);
     }
-    let Some(set) = types.get(text_or_empty(fields.type_name)) else {
+    let Some(set) = set else {
         return Some(ItemRefusal::UnknownType);
     };
     if codes.len() != set.sources.len() {
@@ -129,20 +131,21 @@ fn identifier(alloc: Global, fields: &Carried<'_>) -> Result<Identifier, Memory>
     })
 }
 
-/// The list of a values part under the fields in force, or why it gives none.
+/// The list of a values part under the fields in force and their data set, or why it gives none.
 #[tactic(auto, unfolding(crate::specs::Items::list_outcome))]
 pub(crate) fn list(
     alloc: Global,
     fields: &Carried<'_>,
     payload: &[u8],
-    types: &TypesDb,
+    set: Option<&DataSet>,
     interval: u64,
 ) -> Result<Outcome, Memory>
     requires { IsOfKind VALUES payload.now }
-    ensures { let fields = shown fields.now in
-        IfOk result (λ gave. gave ≡ list_outcome types.now interval fields payload.now) }
+    ensures { let set = option_copied set.entry in
+        let fields = shown fields.now in
+        IfOk result (λ gave. gave ≡ list_outcome set interval fields payload.now) }
 {
-    if let Some(refusal) = list_refusal(fields, payload, types) {
+    if let Some(refusal) = list_refusal(fields, payload, set) {
         return Ok(Err(refusal));
     }
     let id = identifier(alloc, fields)?;

@@ -36,9 +36,6 @@ pub const MESSAGE: u16 = 0x0100;
 /// The kind of a part with the severity of a notification.
 pub const SEVERITY: u16 = 0x0101;
 
-/// The kind of a part with a signature of what follows. It is skipped.
-pub const SIGNATURE: u16 = 0x0200;
-
 /// The kind of a part that is encrypted. It ends the packet.
 pub const ENCRYPTION: u16 = 0x0210;
 

@@ -16,6 +16,8 @@ fn digits_of(word: &str) -> &str {
         "at_100_s" => "0001000c0000000000000064",
         "five" => "0006000f0001020000000000000005",
         "a_gauge" => "0006000f000101000000000000f03f",
+        "counter" => "0004000c636f756e74657200",
+        "absolute" => "0004000d6162736f6c75746500",
         "warning" => "0101000c0000000000000002",
         "hello" => "0100000a68656c6c6f00",
         _ => word,
@@ -43,11 +45,21 @@ fn push_digits(bytes: &mut Vec<u8>, digits: &str) -> Result<(), AllocError> {
     Ok(())
 }
 
-/// The packet of some words.
-fn packet(alloc: Global, words: &str) -> Result<Vec<u8>, AllocError> {
+/// Puts the bytes of a word behind, so often.
+fn push_times(bytes: &mut Vec<u8>, word: &str, times: u64) -> Result<(), AllocError> {
+    for _ in 0..times {
+        push_digits(bytes, digits_of(word))?;
+    }
+    Ok(())
+}
+
+/// The packet of some words; behind a `*` stands how often a word comes.
+fn packet(alloc: Global, words: &str) -> Result<Vec<u8>, Fail> {
     let mut bytes = Vec::new(alloc);
     for word in words.split(' ') {
-        push_digits(&mut bytes, digits_of(word))?;
+        let (word, times) = word.split_once('*').unwrap_or((word, "1"));
+        let times = times.parse::<u64>().map_err(|_| "no number")?;
+        push_times(&mut bytes, word, times)?;
     }
     Ok(bytes)
 }
@@ -98,8 +110,11 @@ const FIELDS: &str = "\
 nothing = Whole
 host at_100_s plugin derive five a_gauge = h/p/derive @107374182400 +10737418240 [Derive(5)]; Gauge at 50; Whole
 at_100_s plugin derive five a_gauge = BadField at 29; BadField at 44; Whole
-host at_100_s other_plugin plugin derive five a_gauge = h/p/derive @107374182400 +10737418240 [Derive(5)]; Gauge at 56; Whole
-host plugin derive at_100_s a_gauge five other_plugin five = h/p/derive @107374182400 +10737418240 [Derive(5)]; h/q/derive @107374182400 +10737418240 [Derive(5)]; Gauge at 35; Whole
+host at_100_s other_plugin plugin derive five a_gauge = \
+    h/p/derive @107374182400 +10737418240 [Derive(5)]; Gauge at 56; Whole
+host plugin derive at_100_s a_gauge five other_plugin five = \
+    h/p/derive @107374182400 +10737418240 [Derive(5)]; h/q/derive @107374182400 +10737418240 [Derive(5)]; \
+    Gauge at 35; Whole
 ";
 
 /// Texts, and what becomes of them.
@@ -110,12 +125,13 @@ const TEXTS: &str = "\
 00000006ff00 plugin derive at_100_s five = NotText at 35; Whole
 00000004 plugin derive at_100_s five = NotText at 33; Whole
 00050006ff00 a_gauge = NotText at 6; Whole
-00000008612f6200 plugin derive at_100_s 00050008782f7f00 five = a_b/p/derive-x/_ @107374182400 +10737418240 [Derive(5)]; Whole
+00000008612f6200 plugin derive at_100_s 00050008782f7f00 five = \
+    a_b/p/derive-x/_ @107374182400 +10737418240 [Derive(5)]; Whole
 000000080a2f6200 plugin derive at_100_s five = __b/p/derive @107374182400 +10737418240 [Derive(5)]; Whole
 host plugin 00040008612d6200 at_100_s five = BadField at 32; Whole
 host plugin 000400086109620000 at_100_s = BadLength(20)
 host plugin 0004000861096200 at_100_s five = BadField at 32; Whole
-00000085686868686868686868686868686868686868686868686868686868686868686868686868686868686868686868686868686868686868686868686868686868686868686868686868686868686868686868686868686868686868686868686868686868686868686868686868686868686868686868686868686868686868686800 plugin derive at_100_s five = BadField at 162; Whole
+00000085 68*128 00 plugin derive at_100_s five = BadField at 162; Whole
 ";
 
 /// Lengths, and parts that are skipped or end a packet.
@@ -123,7 +139,10 @@ const LENGTHS: &str = "\
 00 = BadLength(0)
 000000 = BadLength(0)
 000000006800 = BadLength(0)
+000000016800 = BadLength(0)
+000000026800 = BadLength(0)
 000000036800 = BadLength(0)
+0000ffff6800 = BadLength(0)
 host 000000076800 = BadLength(6)
 0001000b00000000000064 = BadLength(0)
 0009000d000000000000000064 = BadLength(0)
@@ -137,7 +156,8 @@ host plugin derive at_100_s five 02100004 five = h/p/derive @107374182400 +10737
 /// Times and intervals.
 const TIMES: &str = "\
 host plugin derive five = NoTime at 23; Whole
-host plugin derive 0008000c0000000000000064 five at_100_s five = h/p/derive @100 +10737418240 [Derive(5)]; h/p/derive @107374182400 +10737418240 [Derive(5)]; Whole
+host plugin derive 0008000c0000000000000064 five at_100_s five = \
+    h/p/derive @100 +10737418240 [Derive(5)]; h/p/derive @107374182400 +10737418240 [Derive(5)]; Whole
 host plugin derive 0001000c00000003ffffffff five = h/p/derive @18446744072635809792 +10737418240 [Derive(5)]; Whole
 host plugin derive 0001000c0000000400000000 five = BadField at 35; Whole
 host plugin derive at_100_s 0007000c0000000400000000 five = BadField at 47; Whole
@@ -149,8 +169,10 @@ host plugin derive at_100_s 0009000c0000000000000000 five = h/p/derive @10737418
 /// Values, and why they are refused.
 const VALUE_PARTS: &str = "\
 host plugin derive at_100_s 0006000f000102fffffffffffffffe = h/p/derive @107374182400 +10737418240 [Derive(-2)]; Whole
-host plugin 0004000c636f756e74657200 at_100_s 0006000f000100fffffffffffffffe = h/p/counter @107374182400 +10737418240 [Counter(18446744073709551614)]; Whole
-host plugin 0004000d6162736f6c75746500 at_100_s 0006000f0001030000000000000102 = h/p/absolute @107374182400 +10737418240 [Absolute(258)]; Whole
+host plugin counter at_100_s 0006000f000100fffffffffffffffe = \
+    h/p/counter @107374182400 +10737418240 [Counter(18446744073709551614)]; Whole
+host plugin absolute at_100_s 0006000f0001030000000000000102 = \
+    h/p/absolute @107374182400 +10737418240 [Absolute(258)]; Whole
 host plugin derive at_100_s 000600060000 = WrongCount at 35; Whole
 host plugin derive at_100_s 000600180002000200000000000000050000000000000006 = WrongCount at 35; Whole
 host plugin derive 0006000f0001000000000000000005 = WrongKind at 23; Whole
@@ -162,13 +184,14 @@ host plugin 000400096c6f616400 at_100_s five a_gauge = UnknownType at 33; Gauge 
 const MESSAGES: &str = "\
 host at_100_s warning hello = Warning @107374182400 h|||||hello|; Whole
 at_100_s 0101000c0000000000000001 0100000500 = Failure @107374182400 ||||||; Whole
-at_100_s 0101000c0000000000000004 00030008612f6200 00040008612f0900 01000008612f0900 = Okay @107374182400 ||a_b|a/_||a/_|; Whole
+at_100_s 0101000c0000000000000004 00030008612f6200 00040008612f0900 01000008612f0900 = \
+    Okay @107374182400 ||a_b|a/_||a/_|; Whole
 0101000c0000000000000003 hello = BadSeverity at 12; Whole
 hello = BadSeverity at 0; Whole
 warning hello = NoTime at 12; Whole
 warning at_100_s 0100000968656c6c6f = NotText at 24; Whole
 at_100_s warning 0007000c0000000400000000 hello = BadField at 36; Whole
-00000085686868686868686868686868686868686868686868686868686868686868686868686868686868686868686868686868686868686868686868686868686868686868686868686868686868686868686868686868686868686868686868686868686868686868686868686868686868686868686868686868686868686868686800 warning hello = BadField at 145; Whole
+00000085 68*128 00 warning hello = BadField at 145; Whole
 ";
 
 #[test]
@@ -259,21 +282,16 @@ fn cuts_and_copies(rt: HostRuntime) -> Result<(), Fail> {
 fn long_packets(rt: HostRuntime) -> Result<(), Fail> {
     let alloc = rt.alloc();
     let types = TypesDb::builtin(alloc)?;
-    let mut bytes = packet(alloc, "at_100_s derive plugin")?;
-    for _ in 0..100 {
-        push_digits(&mut bytes, digits_of("host"))?;
-    }
-    for _ in 0..2_500 {
-        push_digits(&mut bytes, digits_of("five"))?;
-    }
+    let bytes = packet(alloc, "at_100_s derive plugin host*100 five*2500")?;
     let decoded = items(alloc, bytes.as_slice(), &types, SECOND)?;
     assert_eq!(rt; decoded.items.len(), 2_500);
     assert_eq!(rt; decoded.end, PacketEnd::Whole);
-    let mut bytes = packet(alloc, "at_100_s warning 01000131")?;
-    for _ in 0..150 {
-        push_digits(&mut bytes, "c3a9")?;
-    }
-    bytes.push(0)?;
+    // A type of 30,000 bytes before each of 2,300 lists.
+    let bytes = packet(alloc, "host at_100_s plugin 00047535 64*30000 00 five*2300")?;
+    let decoded = items(alloc, bytes.as_slice(), &types, SECOND)?;
+    assert_eq!(rt; decoded.refused.len(), 2_300);
+    assert_eq!(rt; decoded.end, PacketEnd::Whole);
+    let bytes = packet(alloc, "at_100_s warning 01000131 c3a9*150 00")?;
     let decoded = items(alloc, bytes.as_slice(), &types, SECOND)?;
     let [Item::Note(note)] = decoded.items.as_slice() else {
         return Err("no notification".into());

@@ -1,5 +1,5 @@
-//! What decoding a packet costs. With a word, TIMES, it decodes a full packet so often and prints the time. Without words it
-//! prints nothing.
+//! What decoding a packet costs. With a word, TIMES, it decodes a full packet so often and prints the time. Without
+//! words it prints nothing.
 #![tactic(auto)]
 
 use cd_net::items;
@@ -17,8 +17,8 @@ const FRONT: &[u8] =
     b"\0\x00\0\x15web1.example.com\0\0\x09\0\x0c\0\0\0\x02\x80\0\0\0\0\x02\0\x0einterface\0\0\x04\0\x0bderive\0";
 
 /// Time, plugin instance, type instance and one value, as they stand for each list.
-const LIST: &[u8] =
-    b"\0\x08\0\x0c\x15\x3a\xcb\x4c\x51\x7d\x65\x2a\0\x03\0\x09eth0\0\0\x05\0\x0frx_packets\0\0\x06\0\x0f\0\x01\x02\0\0\0\0\x12\x34\x56\x78";
+const LIST: &[u8] = b"\0\x08\0\x0c\x15\x3a\xcb\x4c\x51\x7d\x65\x2a\0\x03\0\x09eth0\0\
+    \0\x05\0\x0frx_packets\0\0\x06\0\x0f\0\x01\x02\0\0\0\0\x12\x34\x56\x78";
 
 /// A packet with as many lists as there is room for.
 fn full_packet(alloc: Global) -> Result<Vec<u8>, AllocError> {
