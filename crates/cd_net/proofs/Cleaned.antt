@@ -1,15 +1,17 @@
 -- The texts of a packet without a refusal make an identifier.
-use Rattle.std.proofs.Common.{◌≡◌, ℕ, Bool, true, false, not, ◌||◌, List, [], ◌∷◌, length, map, refl, sym, ap, ◌∙◌, arith}
-use Rattle.std.specs.Prelude.{nat_le}
+use Rattle.std.proofs.Common.{◌≡◌, ℕ, zero, suc, ◌≤◌, cond, ◌&&◌, take, Bool, true, false, not, ◌||◌, List, [], ◌∷◌, length, map, refl, sym, ap, ◌∙◌, arith}
+use Rattle.std.specs.Prelude.{nat_le, slice_index}
+use Rattle.std.specs.Fmt.{is_char_start}
+use Rattle.std.specs.Fmt.Cut.{floor_char_boundary}
 use Rattle.std.specs.List.{list_any, list_all}
-use Rattle.std.proofs.lemmas.Bool.{or_parts, and_parts, le-leb, ltb-false, not-false}
+use Rattle.std.proofs.lemmas.Bool.{or_parts, and_parts, le-leb, leb-true, ltb-false, not-false}
 use Rattle.std.proofs.lemmas.Bool.Decides.{nat_tests}
-use Rattle.std.proofs.lemmas.List.{length-map}
-use Rattle.cd_value.specs.Clean.{clean_byte, clean_field}
-use Rattle.cd_value.specs.Identifier.{Fields, has_bad_field, has_long_field, has_slash, is_empty, is_field, is_identifier, is_long, is_type_byte}
+use Rattle.std.proofs.lemmas.List.{length-map, length-take}
+use Rattle.cd_value.specs.Clean.{clean_byte, clean_field, longest_front}
+use Rattle.cd_value.specs.Identifier.{Fields, has_bad_field, has_long_field, has_slash, is_control, is_slash, is_empty, is_field, is_identifier, is_long, is_type_byte}
 use Rattle.cd_value.proofs.Cleaned.{is_field-clean_field, slash-clean_field}
 use Rattle.cd_net.specs.Clean.{cleaned, is_replaced}
-use Rattle.cd_net.specs.Items.{clean_texts}
+use Rattle.cd_net.specs.Items.{clean_texts, is_message, message_of}
 use Rattle.cd_net.proofs.Texts.{cleaned-kept}
 
 -- a text that isn't too long isn't cut
@@ -19,7 +21,7 @@ uncut slash text short =
     = ap (λ n. nat_le n 127) (length-map text (clean_byte slash)) ∙ le-leb (length text) 127 (ltb-false 127 (length text) short) in
     rw fits refl
 
-field_clean : (slash : Bool) (text : List ℕ) → is_long text ≡ false → is_field (cleaned slash text) ≡ true
+pub field_clean : (slash : Bool) (text : List ℕ) → is_long text ≡ false → is_field (cleaned slash text) ≡ true
 field_clean slash text short = ap is_field (sym (uncut slash text short)) ∙ is_field-clean_field slash text
 
 slash_clean : (text : List ℕ) → is_long text ≡ false → has_slash (cleaned true text) ≡ false
@@ -70,3 +72,39 @@ is_identifier-clean_texts texts good short =
       type_kept,
       type_bytes,
     ) refl
+
+-- ---- a message
+
+byte_clean : (slash : Bool) (byte : ℕ) → is_control (clean_byte slash byte) ≡ false
+byte_clean slash byte = by (is_control byte || (slash && is_slash byte)) refl
+  where
+    by : (b : Bool) → (is_control byte || (slash && is_slash byte)) ≡ b → is_control (cond b 95 byte) ≡ false
+    by true e = refl
+    by false e = (or_parts (is_control byte) (slash && is_slash byte) e).0
+
+no_control : (slash : Bool) (text : List ℕ) → list_any is_control (cleaned slash text) ≡ false
+no_control slash [] = refl
+no_control slash (byte ∷ text) = rw (byte_clean slash byte, no_control slash text) refl
+
+floor_low : (text : List ℕ) (limit : ℕ) → floor_char_boundary text limit ≤ limit
+unfolding floor_char_boundary
+floor_low text zero = omega arith
+floor_low text (suc limit) = by (is_char_start (slice_index text (suc limit))) (floor_low text limit)
+  where
+    by : (b : Bool) → floor_char_boundary text limit ≤ limit → cond b (suc limit) (floor_char_boundary text limit) ≤ suc limit
+    by true h = omega arith
+    by false h = omega arith
+
+front_short : (limit : ℕ) (text : List ℕ) → length (longest_front limit text) ≤ limit
+front_short limit text = by (nat_le (length text) limit) refl
+  where
+    by : (b : Bool) → nat_le (length text) limit ≡ b → length (cond b text (take (floor_char_boundary text limit) text)) ≤ limit
+    by true e = leb-true (length text) limit e
+    by false e = omega (arith, length-take (floor_char_boundary text limit) text, floor_low text limit)
+
+pub is_message-message_of : (text : List ℕ) → is_message (message_of text) ≡ true
+is_message-message_of text =
+    let front = longest_front 255 text in
+    let short : nat_le (length (cleaned false front)) 255 ≡ true
+    = ap (λ n. nat_le n 255) (length-map front (clean_byte false)) ∙ le-leb (length front) 255 (front_short 255 text) in
+    rw (no_control false front, short) refl

@@ -12,9 +12,9 @@ use Rattle.cd_net.specs.declared.packet.PacketEnd.{PacketEnd}
 use Rattle.cd_net.specs.Packet.{AreParts, end_at, part_at, payload}
 use Rattle.cd_net.specs.InForce.{InForce, in_force}
 use Rattle.cd_net.specs.Carried.{with_field}
-use Rattle.cd_net.specs.Items.{IsDecoded, each_behind, outcome, outcome_behind, item_in, refusal_in, items_of, refused_of}
+use Rattle.cd_net.specs.Items.{IsDecoded, SaysOneThing, each_behind, outcome, outcome_behind, item_in, refusal_in, items_of, refused_of}
 use Rattle.cd_net.specs.Refusals.{set_in_force}
-use Rattle.cd_net.proofs.Cutting.{parts_once}
+use Rattle.cd_net.proofs.Cutting.{cut_in_one_way, parts_once}
 use Rattle.cd_net.proofs.Fields.{in_force-push}
 
 cons-append : {A : Type 0} (o : Option A) (xs ys : List A) → cons_option o xs ++ ys ≡ cons_option o (xs ++ ys)
@@ -101,3 +101,14 @@ decoded_once types global bytes other decoded a b =
     ap (λ (xs : List Item). record { items = xs; refused = other.refused; end = other.end }) items
     ∙ ap (λ (xs : List (ℕ × ItemRefusal)). record { items = decoded.items; refused = xs; end = other.end }) refused
     ∙ ap (λ (e : PacketEnd). record { items = decoded.items; refused = decoded.refused; end = e }) both.1
+
+pub says_one_thing : (types : List DataSet) (global : ℕ) (bytes : List ℕ) → SaysOneThing types global bytes
+says_one_thing types global bytes =
+    let cut = cut_in_one_way bytes in
+    let says : Decoded = record { items = items_of types global bytes cut.parts; refused = refused_of types global bytes cut.parts; end = cut.end } in
+    let decoded : IsDecoded types global bytes says = record { parts = cut.parts; cut = cut.cut; items = refl; refused = refl } in
+    record {
+      says = says;
+      decoded = decoded;
+      only = λ other is. decoded_once types global bytes other says is decoded;
+    }

@@ -1,5 +1,4 @@
 -- A field carried forward is the one that looking back finds.
-use Rattle.std.specs.Prelude.{unwrap_or}
 use Rattle.std.proofs.Common.{◌≡◌, ℕ, ◌==◌, ◌++◌, List, [], ◌∷◌, reverse, Option, Some, cond, Bool, true, false, refl, sym, ap, ◌∙◌}
 use Rattle.std.proofs.lemmas.List.{reverse-append}
 use Rattle.std.specs.List.{find}
@@ -9,10 +8,9 @@ use Rattle.cd_net.specs.Packet.{payload}
 use Rattle.cd_net.specs.Payload.{payload_text}
 use Rattle.cd_net.specs.declared.numbers.TheConstants.{TYPE}
 use Rattle.cd_value.specs.declared.data.DataSet.{DataSet}
-use Rattle.cd_types.specs.Types.{set_named}
 use Rattle.cd_net.specs.InForce.{InForce, last_of, in_force}
 use Rattle.cd_net.specs.Carried.{set_behind, with_field}
-use Rattle.cd_net.specs.Refusals.{set_in_force}
+use Rattle.cd_net.specs.Refusals.{set_in_force, set_of_type}
 
 -- behind one more part it is what that part says, where it is of the kind, and what it was before otherwise
 pub last_of-push : {A : Type 0} (is_kind : ℕ → Bool) (read : Part → A) (default : A) (before : List Part) (part : Part)
@@ -43,4 +41,4 @@ set_is_in_force types kind payload fields next set again set_is next_is again_is
     by false e =
         let named : next.type_name ≡ cond (kind == TYPE) (payload_text payload) fields.type_name = ap (λ (f : InForce). f.type_name) next_is in
         let same : next.type_name ≡ fields.type_name = named ∙ ap (λ (t : Bool). cond t (payload_text payload) fields.type_name) e in
-        set_is ∙ ap (λ (o : Option (List ℕ)). set_named (unwrap_or o []) types) (sym same)
+        set_is ∙ ap (set_of_type types) (sym same)

@@ -1,6 +1,6 @@
 -- A values part that isn't refused has the fields of an identifier, and a list that fits the types.
-use Rattle.std.proofs.Common.{◌≡◌, ℕ, ◌==◌, Bool, true, false, cond, not, ◌&&◌, ◌||◌, List, [], ◌∷◌, ◌++◌, length, drop, Option, Some, None, Result, refl, sym, ap, ◌∙◌, arith}
-use Rattle.std.specs.Prelude.{IfSome, is_none}
+use Rattle.std.proofs.Common.{◌≡◌, ℕ, zero, suc, ◌==◌, Bool, true, false, cond, not, ◌&&◌, ◌||◌, List, [], ◌∷◌, ◌++◌, length, drop, Option, Some, None, Result, refl, sym, ap, ◌∙◌, arith}
+use Rattle.std.specs.Prelude.{IfSome, is_none, unwrap_or}
 use Rattle.std.specs.List.{cons_option, find, list_all, list_any, zip}
 use Rattle.std.specs.Str.{bytes_eq}
 use Rattle.std.specs.Int.{w64, cast_signed}
@@ -14,19 +14,19 @@ use Rattle.cd_value.specs.declared.data.DsType.TheVariants as kinds
 use Rattle.cd_value.specs.declared.data.Value.{Value}
 use Rattle.cd_value.specs.declared.data.Value.TheVariants.{Counter, Derive, Absolute}
 use Rattle.cd_value.specs.declared.data.ValueList.{ValueList}
-use Rattle.cd_value.specs.Identifier.{Fields, has_bad_field, has_long_field}
+use Rattle.cd_value.specs.Identifier.{Fields, has_bad_field, has_long_field, is_long}
 use Rattle.cd_net.specs.declared.item.Item.{Item}
 use Rattle.cd_net.specs.declared.item.Item.TheVariants as items
 use Rattle.cd_net.specs.declared.item.ItemRefusal.{ItemRefusal}
-use Rattle.cd_net.specs.declared.item.ItemRefusal.TheVariants.{NotText, BadField, Gauge, UnknownType, WrongCount, WrongKind}
+use Rattle.cd_net.specs.declared.item.ItemRefusal.TheVariants.{NotText, BadField, Gauge, UnknownType, WrongCount, WrongKind, NoTime}
 use Rattle.cd_net.specs.declared.numbers.TheConstants.{VALUES, MESSAGE}
 use Rattle.cd_net.specs.declared.packet.Part.{Part}
 use Rattle.cd_net.specs.InForce.{InForce, in_force}
 use Rattle.cd_net.specs.Packet.{payload}
-use Rattle.cd_net.specs.Items.{each_behind, item_fits, item_in, items_of, list_of, list_outcome, note_outcome, or_refusal, outcome, outcome_behind}
+use Rattle.cd_net.specs.Items.{each_behind, is_sound, item_fits, item_in, items_of, list_of, list_outcome, note_of, note_outcome, or_refusal, outcome, outcome_behind}
 use Rattle.cd_net.specs.Payload.{code_of, codes_of, coded_value, coded_values, numbers_of, payload_text}
-use Rattle.cd_net.specs.Refusals.{are_texts, are_times, first_refusal, is_code_of, is_gauge_code, list_tests, note_tests, set_in_force, sources_of, texts_of}
-use Rattle.cd_net.proofs.Cleaned.{type_stays}
+use Rattle.cd_net.specs.Refusals.{are_texts, are_times, first_refusal, has_time, is_code_of, is_gauge_code, list_tests, note_tests, set_in_force, set_of_type, sources_of, texts_of}
+use Rattle.cd_net.proofs.Cleaned.{field_clean, is_message-message_of, type_stays}
 
 -- ---- nothing is refused
 
@@ -124,6 +124,14 @@ fits_named types list set is fit =
     ∙ and_from (bytes_eq set.name list.id.type_name && length set.sources == length list.values) (list_all pair_fits (zip set.sources list.values))
     (and_from (bytes_eq set.name list.id.type_name) (length set.sources == length list.values) named count) fit.kinds
 
+is_named : (types : List DataSet) (name : Option (List ℕ)) (set : DataSet) → set_of_type types name ≡ Some set → set_named (unwrap_or name []) types ≡ Some set
+is_named types None set h = cc
+is_named types (Some name) set h = by (is_long name) h
+  where
+    by : (t : Bool) → cond t None (set_named name types) ≡ Some set → set_named name types ≡ Some set
+    by true e = cc
+    by false e = e
+
 list_fits : (types : List DataSet) (global : ℕ) (fields : InForce) (payload : List ℕ) → first_refusal (list_tests (set_in_force types fields) fields payload) ≡ None → fits types (list_of global fields payload) ≡ true
 list_fits types global fields payload h = by (set_in_force types fields) refl (list_passes (set_in_force types fields) fields payload h)
   where
@@ -134,30 +142,29 @@ list_fits types global fields payload h = by (set_in_force types fields) refl (l
         let codes = codes_of payload in
         let sources : sources_of (set_in_force types fields) ≡ set.sources = ap sources_of is in
         fits_named types (list_of global fields payload) set
-        (ap (λ (name : List ℕ). set_named name types) (type_stays texts pass.good) ∙ is)
+        (ap (λ (name : List ℕ). set_named name types) (type_stays texts pass.good) ∙ is_named types fields.type_name set is)
         (values_fit codes set.sources (numbers_of payload) (pass.count ∙ ap length sources) (ap (λ (s : List DataSource). list_all is_code_of (zip codes s)) (sym sources) ∙ pass.kinds) pass.no_gauge)
 
 -- ---- each item
 
-outcome_fits : (types : List DataSet) (global : ℕ) (fields : InForce) (kind : ℕ) (payload : List ℕ)
-    → IfSome (item_in (outcome (set_in_force types fields) global fields kind payload)) (λ item. item_fits types item ≡ true)
+-- what holds of each list and each notification that isn't refused holds of each item
+outcome_holds : (P : Item → Bool) (set : Option DataSet) (global : ℕ) (fields : InForce) (kind : ℕ) (payload : List ℕ)
+    → (first_refusal (list_tests set fields payload) ≡ None → P (items.List (list_of global fields payload)) ≡ true)
+    → (first_refusal (note_tests fields (payload_text payload)) ≡ None → P (items.Note (note_of fields (unwrap_or (payload_text payload) []))) ≡ true)
+    → IfSome (item_in (outcome set global fields kind payload)) (λ item. P item ≡ true)
 unfolding list_outcome note_outcome
-outcome_fits types global fields kind payload = by (kind == VALUES) (kind == MESSAGE)
+outcome_holds P set global fields kind payload of_list of_note = by (kind == VALUES) (kind == MESSAGE)
   where
-    Fits : Option (Result Item ItemRefusal) → Type 0
-    Fits gave = IfSome (item_in gave) (λ item. item_fits types item ≡ true)
+    Holds : Option (Result Item ItemRefusal) → Type 0
+    Holds gave = IfSome (item_in gave) (λ item. P item ≡ true)
 
-    list : (o : Option ItemRefusal) → first_refusal (list_tests (set_in_force types fields) fields payload) ≡ o → Fits (Some (or_refusal (items.List (list_of global fields payload)) o))
-    list None none = list_fits types global fields payload none
-    list (Some refusal) some = tt
+    each : (o : Option ItemRefusal) (item : Item) → (o ≡ None → P item ≡ true) → Holds (Some (or_refusal item o))
+    each None item holds = holds refl
+    each (Some refusal) item holds = tt
 
-    note : (o : Option ItemRefusal) (item : Item) → item_fits types item ≡ true → Fits (Some (or_refusal item o))
-    note None item fit = fit
-    note (Some refusal) item fit = tt
-
-    by : (values message : Bool) → Fits (cond values (Some (list_outcome (set_in_force types fields) global fields payload)) (cond message (Some (note_outcome fields payload)) None))
-    by true message = list (first_refusal (list_tests (set_in_force types fields) fields payload)) refl
-    by false true = note (first_refusal (note_tests fields (payload_text payload))) _ refl
+    by : (values message : Bool) → Holds (cond values (Some (list_outcome set global fields payload)) (cond message (Some (note_outcome fields payload)) None))
+    by true message = each (first_refusal (list_tests set fields payload)) (items.List (list_of global fields payload)) of_list
+    by false true = each (first_refusal (note_tests fields (payload_text payload))) (items.Note (note_of fields (unwrap_or (payload_text payload) []))) of_note
     by false false = tt
 
 all_behind : {A : Type 0} (P : A → Bool) (f : List Part → Part → Option A)
@@ -173,4 +180,45 @@ all_behind {A} P f h before (part ∷ parts) = by (f before part) (h before part
 
 pub each_item_fits : (types : List DataSet) (global : ℕ) (bytes : List ℕ) (parts : List Part) → list_all (item_fits types) (items_of types global bytes parts) ≡ true
 each_item_fits types global bytes parts =
-    all_behind (item_fits types) (λ before part. item_in (outcome_behind types global bytes before part)) (λ before part. outcome_fits types global (in_force bytes before) part.kind (payload bytes part)) [] parts
+    all_behind (item_fits types) (λ before part. item_in (outcome_behind types global bytes before part)) (λ before part.
+        let fields = in_force bytes before in
+        let payload = payload bytes part in
+        outcome_holds (item_fits types) (set_in_force types fields) global fields part.kind payload (list_fits types global fields payload) (λ h. refl)) [] parts
+
+-- ---- each item is sound
+
+later : (n : ℕ) (tests : List (Bool × ItemRefusal)) → first_refusal tests ≡ None → first_refusal (drop n tests) ≡ None
+later zero tests h = h
+later (suc n) [] h = h
+later (suc n) (test ∷ tests) h = later n tests (passes test tests h).1
+
+list_sound : (set : Option DataSet) (global : ℕ) (fields : InForce) (payload : List ℕ) → first_refusal (list_tests set fields payload) ≡ None → is_sound (items.List (list_of global fields payload)) ≡ true
+list_sound set global fields payload h =
+    not-false (has_time fields) (passes (not (has_time fields), NoTime) [] (later 6 (list_tests set fields payload) h)).0
+
+note_sound : (fields : InForce) (message : Option (List ℕ)) → first_refusal (note_tests fields message) ≡ None → is_sound (items.Note (note_of fields (unwrap_or message []))) ≡ true
+note_sound fields message h =
+    let texts = texts_of fields in
+    let tests = note_tests fields message in
+    let time : has_time fields ≡ true = not-false (has_time fields) (passes (not (has_time fields), NoTime) [] (later 3 tests h)).0 in
+    let second = passes (has_long_field texts || not (are_times fields), BadField) (drop 2 tests) (later 1 tests h) in
+    let short = or_parts (has_long_field texts) (not (are_times fields)) second.0 in
+    let long4 = or_parts (is_long texts.host || is_long texts.plugin || is_long texts.plugin_instance || is_long texts.type_name) (is_long texts.type_instance) short.0 in
+    let long3 = or_parts (is_long texts.host || is_long texts.plugin || is_long texts.plugin_instance) (is_long texts.type_name) long4.0 in
+    let long2 = or_parts (is_long texts.host || is_long texts.plugin) (is_long texts.plugin_instance) long3.0 in
+    let long1 = or_parts (is_long texts.host) (is_long texts.plugin) long2.0 in
+    rw (
+      time,
+      field_clean true texts.host long1.0,
+      field_clean true texts.plugin long1.1,
+      field_clean true texts.plugin_instance long2.1,
+      field_clean false texts.type_name long3.1,
+      field_clean false texts.type_instance long4.1,
+    ) (is_message-message_of (unwrap_or message []))
+
+pub each_item_is_sound : (types : List DataSet) (global : ℕ) (bytes : List ℕ) (parts : List Part) → list_all is_sound (items_of types global bytes parts) ≡ true
+each_item_is_sound types global bytes parts =
+    all_behind is_sound (λ before part. item_in (outcome_behind types global bytes before part)) (λ before part.
+        let fields = in_force bytes before in
+        let payload = payload bytes part in
+        outcome_holds is_sound (set_in_force types fields) global fields part.kind payload (list_sound (set_in_force types fields) global fields payload) (note_sound fields (payload_text payload))) [] parts

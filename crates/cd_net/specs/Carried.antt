@@ -3,6 +3,8 @@ use Rattle.std.specs.Prelude.{ℕ, ◌==◌, List, Option, option_map, if◌then
 use Rattle.cd_value.specs.declared.data.DataSet.{DataSet}
 use Rattle.cd_net.specs.declared.field.Field.{Field}
 use Rattle.cd_net.specs.declared.carried.Carried.{Carried}
+use Rattle.cd_net.specs.declared.carried.CleanTexts.{CleanTexts}
+use Rattle.cd_value.specs.Identifier.{Fields}
 use Rattle.cd_net.specs.declared.numbers.TheConstants.{HOST, PLUGIN, PLUGIN_INSTANCE, TYPE, TYPE_INSTANCE, TIME, INTERVAL, SEVERITY}
 use Rattle.cd_net.specs.Payload.{payload_text, payload_number}
 use Rattle.cd_net.specs.InForce.{InForce, is_time, is_interval, units_of}
@@ -23,6 +25,16 @@ shown fields = record {
   time = fields.time;
   interval = fields.interval;
   severity = fields.severity;
+}
+
+-- copied texts, as the fields of an identifier
+abbrev pub as_fields : CleanTexts → Fields
+as_fields texts = record {
+  host = texts.host;
+  plugin = texts.plugin;
+  plugin_instance = texts.plugin_instance;
+  type_name = texts.type_name;
+  type_instance = texts.type_instance;
 }
 
 -- the text of a payload, if the part is of the field's kind, and else the text before

@@ -1,5 +1,5 @@
 -- What a packet says: for each values part and each message part an item, or why it gives none.
-use Rattle.std.specs.Prelude.{◌≡◌, ℕ, ◌==◌, Bool, true, false, List, [], ◌∷◌, ◌++◌, Option, Some, None, unwrap_or, Result, Ok, Err, if◌then◌else◌}
+use Rattle.std.specs.Prelude.{◌≡◌, ℕ, ◌==◌, Bool, true, false, not, ◌&&◌, nat_le, length, List, [], ◌∷◌, ◌++◌, Option, Some, None, unwrap_or, Result, Ok, Err, if◌then◌else◌}
 use Rattle.std.specs.List.{cons_option}
 use Rattle.cd_types.specs.Types.{fits}
 use Rattle.cd_value.specs.declared.data.DataSet.{DataSet}
@@ -9,7 +9,7 @@ use Rattle.cd_value.specs.declared.data.Severity.{Severity}
 use Rattle.cd_value.specs.declared.data.Severity.TheVariants.{Failure, Warning, Okay}
 use Rattle.cd_value.specs.declared.numbers.TheConstants.{MESSAGE_LIMIT}
 use Rattle.cd_value.specs.Clean.{longest_front}
-use Rattle.cd_value.specs.Identifier.{Fields}
+use Rattle.cd_value.specs.Identifier.{Fields, has_control, is_field}
 use Rattle.cd_net.specs.declared.item.Item.{Item}
 use Rattle.cd_net.specs.declared.item.Item.TheVariants as items
 use Rattle.cd_net.specs.declared.item.ItemRefusal.{ItemRefusal}
@@ -127,6 +127,24 @@ pub record IsDecoded (types : List DataSet) (global : ℕ) (bytes : List ℕ) (d
   pub cut : AreParts bytes 0 parts decoded.end
   pub items : decoded.items ≡ items_of types global bytes parts
   pub refused : decoded.refused ≡ refused_of types global bytes parts
+
+-- a message has no control character, and isn't too long
+abbrev pub is_message : List ℕ → Bool
+is_message text = not (has_control text) && nat_le (length text) MESSAGE_LIMIT
+
+-- an item has a time, and a notification's texts may be its fields and its message
+abbrev pub is_sound : Item → Bool
+is_sound (items.List list) = not (list.time == 0)
+is_sound (items.Note note) =
+    not (note.time == 0) && is_field note.host && is_field note.plugin
+    && is_field note.plugin_instance && is_field note.type_name && is_field note.type_instance
+    && is_message note.message
+
+-- there is something that the packet says, and nothing else is what it says
+pub record SaysOneThing (types : List DataSet) (global : ℕ) (bytes : List ℕ) : Type 0 where
+  pub says : Decoded
+  pub decoded : IsDecoded types global bytes says
+  pub only : (other : Decoded) → IsDecoded types global bytes other → other ≡ says
 
 -- an item that is a list fits the types
 abbrev pub item_fits : List DataSet → Item → Bool

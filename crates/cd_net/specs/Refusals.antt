@@ -5,7 +5,7 @@ use Rattle.std.specs.Option.{option_map_or}
 use Rattle.cd_types.specs.Types.{set_named}
 use Rattle.cd_value.specs.declared.data.DataSet.{DataSet}
 use Rattle.cd_value.specs.declared.data.DataSource.{DataSource}
-use Rattle.cd_value.specs.Identifier.{Fields, has_bad_field, has_long_field}
+use Rattle.cd_value.specs.Identifier.{Fields, has_bad_field, has_long_field, is_long}
 use Rattle.cd_net.specs.declared.item.ItemRefusal.{ItemRefusal}
 use Rattle.cd_net.specs.declared.item.ItemRefusal.TheVariants.{NotText, BadField, Gauge, UnknownType, WrongCount, WrongKind, BadSeverity, NoTime}
 use Rattle.cd_net.specs.declared.numbers.TheConstants.{GAUGE_CODE, FAILURE_CODE, WARNING_CODE, OKAY_CODE}
@@ -43,9 +43,14 @@ has_time fields = not (unwrap_or fields.time 0 == 0)
 
 -- ---- a values part
 
--- the data set of the type in force, if it is known
+-- the data set of a type that is a text, short enough for a field, and known
+abbrev pub set_of_type : List DataSet → Option (List ℕ) → Option DataSet
+set_of_type types None = None
+set_of_type types (Some name) = if is_long name then None else set_named name types
+
+-- the data set of the type in force
 abbrev pub set_in_force : List DataSet → InForce → Option DataSet
-set_in_force types fields = set_named (texts_of fields).type_name types
+set_in_force types fields = set_of_type types fields.type_name
 
 -- the sources of a data set, and none where there is none
 abbrev pub sources_of : Option DataSet → List DataSource

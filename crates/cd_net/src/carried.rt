@@ -1,11 +1,11 @@
 //! The fields that parts carry forward to the values and messages behind them.
-ghost use Rattle.std.specs.Prelude.{◌≡◌, ℕ, List, [], length, nat_lt, unwrap_or};
+ghost use Rattle.std.specs.Prelude.{◌≡◌, ℕ, List, [], length, nat_lt, unwrap_or, IfOk};
 ghost use Rattle.std.specs.List.{list_all};
 ghost use Rattle.std.specs.Option.{option_copied};
 ghost use Rattle.cd_value.specs.Identifier.{has_bad_field, has_long_field, is_long, is_type_byte};
-ghost use Rattle.cd_net.specs.Items.{interval_or};
+ghost use Rattle.cd_net.specs.Items.{clean_texts, interval_or};
 ghost use Rattle.cd_net.specs.Refusals.{are_texts, are_times, has_time, set_in_force, texts_of};
-ghost use Rattle.cd_net.specs.Carried.{shown, text_in, with_field};
+ghost use Rattle.cd_net.specs.Carried.{as_fields, shown, text_in, with_field};
 ghost use Rattle.cd_net.specs.InForce.{in_force};
 ghost use Rattle.cd_net.specs.Packet.{IsOfKind};
 ghost use Rattle.cd_net.specs.Payload.{payload_text};
@@ -17,7 +17,8 @@ use crate::numbers::{
 };
 use crate::payload::{number, text, units_of_seconds};
 use cd_types::TypesDb;
-use cd_value::{DataSet, FIELD_LIMIT};
+use cd_value::{DataSet, FIELD_LIMIT, Memory, Text};
+use std::alloc::Global;
 
 /// The fields in force. A text that isn't one, and a time of 2^34 seconds or more, is `None`.
 #[derive(Clone, Copy)]
@@ -30,6 +31,16 @@ pub(crate) struct Carried<'a> {
     pub time: Option<u64>,
     pub interval: Option<u64>,
     pub severity: u64,
+}
+
+/// Copies of the five texts, made fit to be fields.
+#[derive(Drop)]
+pub(crate) struct CleanTexts {
+    pub host: Text,
+    pub plugin: Text,
+    pub plugin_instance: Text,
+    pub type_name: Text,
+    pub type_instance: Text,
 }
 
 impl<'a> Carried<'a> {
@@ -117,11 +128,31 @@ impl<'a> Carried<'a> {
         self.time.unwrap_or(0) != 0
     }
 
-    /// The data set of the type, if it is known.
+    /// Copies of the texts, made fit to be fields; of an empty text where there is none.
+    pub fn clean_texts(&self, alloc: Global) -> Result<CleanTexts, Memory>
+        ensures { IfOk result
+            (λ texts. as_fields texts ≡ clean_texts (texts_of (shown self.now))) }
+    {
+        Ok(CleanTexts {
+            host: field_or_empty(self.host).clean_copy(alloc, true)?,
+            plugin: field_or_empty(self.plugin).clean_copy(alloc, true)?,
+            plugin_instance: field_or_empty(self.plugin_instance).clean_copy(alloc, true)?,
+            type_name: field_or_empty(self.type_name).clean_copy(alloc, false)?,
+            type_instance: field_or_empty(self.type_instance).clean_copy(alloc, false)?,
+        })
+    }
+
+    /// The data set of the type, if it is known. A type that no list can have isn't looked for.
     pub fn set_in<'t>(&self, types: &'t TypesDb) -> Option<&'t DataSet>
         ensures { option_copied result ≡ set_in_force types.now (shown self.now) }
     {
-        types.get(text_or_empty(self.type_name))
+        let Some(name) = self.type_name else {
+            return None;
+        };
+        if name.text.len() > FIELD_LIMIT {
+            return None;
+        }
+        types.get(name.text)
     }
 
     /// The interval, or the global one.
@@ -146,7 +177,7 @@ fn field(payload: &[u8]) -> Option<Field<'_>>
 }
 
 /// The field, or one with an empty text where there is none.
-pub(crate) fn field_or_empty(field: Option<Field<'_>>) -> Field<'_>
+fn field_or_empty(field: Option<Field<'_>>) -> Field<'_>
     ensures { result.text.now ≡ unwrap_or (text_in field.entry) [] }
 {
     match field {
@@ -156,7 +187,7 @@ pub(crate) fn field_or_empty(field: Option<Field<'_>>) -> Field<'_>
 }
 
 /// The text of the field, or an empty one where there is none.
-pub(crate) fn text_or_empty(field: Option<Field<'_>>) -> &str
+fn text_or_empty(field: Option<Field<'_>>) -> &str
     ensures { result.now ≡ unwrap_or (text_in field.entry) [] }
 {
     match field {

@@ -3,7 +3,7 @@ ghost use Rattle.std.specs.Prelude.{◌≡◌, ◌++◌, IfOk, IsTrue, OnOk, opt
 ghost use Rattle.std.specs.List.{list_all};
 ghost use Rattle.std.specs.Option.{option_copied};
 ghost use Rattle.cd_net.specs.Carried.{set_behind, shown};
-ghost use Rattle.cd_net.specs.Items.{IsDecoded, item_fits, item_in, outcome, refusal_in};
+ghost use Rattle.cd_net.specs.Items.{IsDecoded, is_sound, item_fits, item_in, outcome, refusal_in};
 ghost use Rattle.cd_net.specs.declared.item.Decoded.{Decoded};
 ghost use Rattle.cd_net.specs.Packet.{IsOfKind};
 
@@ -80,12 +80,13 @@ fn keep(
 /// receives it: a value list for each values part and a notification for each message part, with the
 /// fields that the packet gave before, unless the part is refused. Items stand beside refused parts,
 /// and before an end that isn't whole. `interval` is the global interval in 2^-30 s, for lists that
-/// come without one. A field of the result is known by the packet alone: no call keeps anything.
+/// come without one. No call keeps anything: what one packet says has nothing of another's fields.
 pub fn items(alloc: Global, bytes: &[u8], types: &TypesDb, interval: u64) -> Result<Decoded, Memory>
     ensures decoded { IfOk result (λ decoded. IsDecoded types.now interval bytes.now decoded) }
     ensures only { IfOk result (λ decoded. (other : Decoded) →
         IsDecoded types.now interval bytes.now other → other ≡ decoded) }
     ensures fits { IfOk result (λ decoded. IsTrue (list_all (item_fits types.now) decoded.items)) }
+    ensures sound { IfOk result (λ decoded. IsTrue (list_all is_sound decoded.items)) }
 {
     let mut items = Sequence::new(alloc);
     let mut refused = Sequence::new(alloc);

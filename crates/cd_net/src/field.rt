@@ -17,7 +17,8 @@ pub(crate) struct Field<'a> {
 
 impl<'a> Field<'a> {
     pub fn new(text: &'a str) -> Self
-        ensures { result.text.now ≡ text.now }
+        ensures text { result.text.now ≡ text.now }
+        ensures clean { result.is_clean ≡ list_all (λ byte. not (is_replaced true byte)) text.now }
     {
         let is_clean = is_clean(text.as_bytes());
         Field { text, is_clean }

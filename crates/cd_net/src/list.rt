@@ -9,7 +9,7 @@ ghost use Rattle.cd_net.specs.Packet.{IsOfKind};
 ghost use Rattle.cd_net.specs.Payload.{code_of, codes_of, value_count, coded_value, payload_values};
 ghost use Rattle.cd_net.specs.Refusals.{are_texts, are_times, first_refusal, has_time, is_code_of, is_gauge_code, list_tests, sources_of, texts_of};
 
-use crate::carried::{Carried, field_or_empty};
+use crate::carried::{Carried, CleanTexts};
 use crate::decode::Outcome;
 use crate::numbers::{ABSOLUTE_CODE, COUNTER_CODE, DERIVE_CODE, GAUGE_CODE, VALUES};
 use crate::payload::{codes_and_numbers, number};
@@ -117,11 +117,14 @@ fn identifier(alloc: Global, fields: &Carried<'_>) -> Result<Identifier, Memory>
     requires short { has_long_field (texts_of (shown fields.now)) ≡ false }
     ensures { IfOk result (λ id. id ≡ clean_texts (texts_of (shown fields.now))) }
 {
-    let host = field_or_empty(fields.host).clean_copy(alloc, true)?;
-    let plugin = field_or_empty(fields.plugin).clean_copy(alloc, true)?;
-    let plugin_instance = field_or_empty(fields.plugin_instance).clean_copy(alloc, true)?;
-    let type_name = field_or_empty(fields.type_name).clean_copy(alloc, false)?;
-    let type_instance = field_or_empty(fields.type_instance).clean_copy(alloc, false)?;
+    let texts = fields.clean_texts(alloc)?;
+    let CleanTexts {
+        host,
+        plugin,
+        plugin_instance,
+        type_name,
+        type_instance,
+    } = texts;
     Ok(Identifier {
         host,
         plugin,

@@ -6,7 +6,7 @@ ghost use Rattle.cd_net.specs.Items.{message_of, note_of, note_outcome, severity
 ghost use Rattle.cd_net.specs.Payload.{payload_text};
 ghost use Rattle.cd_net.specs.Refusals.{first_refusal, is_severity, note_tests};
 
-use crate::carried::{Carried, field_or_empty};
+use crate::carried::{Carried, CleanTexts};
 use crate::decode::Outcome;
 use crate::field::Field;
 use crate::numbers::{FAILURE_CODE, OKAY_CODE, WARNING_CODE};
@@ -55,11 +55,14 @@ fn note_refusal(fields: &Carried<'_>, message: Option<&str>) -> Option<ItemRefus
 fn note_of(alloc: Global, fields: &Carried<'_>, message: &str) -> Result<Notification, Memory>
     ensures { IfOk result (λ note. note ≡ note_of (shown fields.now) message.now) }
 {
-    let host = field_or_empty(fields.host).clean_copy(alloc, true)?;
-    let plugin = field_or_empty(fields.plugin).clean_copy(alloc, true)?;
-    let plugin_instance = field_or_empty(fields.plugin_instance).clean_copy(alloc, true)?;
-    let type_name = field_or_empty(fields.type_name).clean_copy(alloc, false)?;
-    let type_instance = field_or_empty(fields.type_instance).clean_copy(alloc, false)?;
+    let texts = fields.clean_texts(alloc)?;
+    let CleanTexts {
+        host,
+        plugin,
+        plugin_instance,
+        type_name,
+        type_instance,
+    } = texts;
     let message = Field::new(longest_front(message, MESSAGE_LIMIT)).clean_copy(alloc, false)?;
     Ok(Notification {
         severity: severity_of(fields.severity),

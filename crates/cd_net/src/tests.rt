@@ -1,8 +1,8 @@
 //! Packets worked by hand from the protocol: what each says, by its parts.
-use crate::{Decoded, Item, PacketEnd, Part, VALUES, items, parts};
+use crate::{Decoded, Item, PacketEnd, items, parts};
 use cd_types::TypesDb;
 use cd_value::{Notification, SECOND, TryCopy, ValueList};
-use std::alloc::{AllocError, Global};
+use std::alloc::Global;
 use std::test::Fail;
 
 /// The parts that have a name in the rows below; a word that is none is its bytes in hexadecimal digits.
@@ -24,14 +24,14 @@ fn digits_of(word: &str) -> &str {
     }
 }
 
-/// Puts the bytes of hexadecimal digits behind.
-fn push_digits(bytes: &mut Vec<u8>, digits: &str) -> Result<(), AllocError> {
+/// Puts the bytes of hexadecimal digits behind. What is none, and half a byte, is a fault.
+fn push_digits(bytes: &mut Vec<u8>, digits: &str) -> Result<(), Fail> {
     let mut half = None;
     for digit in digits.bytes() {
         let value = match digit {
             b'0'..=b'9' => digit - b'0',
             b'a'..=b'f' => digit - b'a' + 10,
-            _ => 0,
+            _ => return Err("a word that has no name".into()),
         };
         half = match half {
             None => Some(value),
@@ -42,11 +42,14 @@ fn push_digits(bytes: &mut Vec<u8>, digits: &str) -> Result<(), AllocError> {
             }
         };
     }
-    Ok(())
+    match half {
+        None => Ok(()),
+        Some(_) => Err("half a byte".into()),
+    }
 }
 
 /// Puts the bytes of a word behind, so often.
-fn push_times(bytes: &mut Vec<u8>, word: &str, times: u64) -> Result<(), AllocError> {
+fn push_times(bytes: &mut Vec<u8>, word: &str, times: u64) -> Result<(), Fail> {
     for _ in 0..times {
         push_digits(bytes, digits_of(word))?;
     }
@@ -89,16 +92,21 @@ fn show_note(out: &mut String, note: &Notification) -> Result<(), Fail> {
     Ok(())
 }
 
-/// What a packet says, in one line.
+/// What a packet says, in one line; of many items or refusals their number.
 fn shown(alloc: Global, decoded: &Decoded) -> Result<String, Fail> {
     let mut out = String::new(alloc);
-    for item in decoded.items.as_slice() {
+    let (items, refused) = (decoded.items.as_slice(), decoded.refused.as_slice());
+    if items.len() > 9 || refused.len() > 9 {
+        write!(out, "{} items, {} refused; {:?}", items.len(), refused.len(), decoded.end)?;
+        return Ok(out);
+    }
+    for item in items {
         match item {
             Item::List(list) => show_list(&mut out, list)?,
             Item::Note(note) => show_note(&mut out, note)?,
         }
     }
-    for (place, refusal) in decoded.refused.as_slice() {
+    for (place, refusal) in refused {
         write!(out, "{refusal:?} at {place}; ")?;
     }
     write!(out, "{:?}", decoded.end)?;
@@ -194,16 +202,30 @@ at_100_s warning 0007000c0000000400000000 hello = BadField at 36; Whole
 00000085 68*128 00 warning hello = BadField at 145; Whole
 ";
 
+/// Long packets: many lists, a type of 30,000 bytes before each of 2,300 lists, and a message that is cut.
+const LONG: &str = "\
+at_100_s derive plugin host*100 five*2500 = 2500 items, 0 refused; Whole
+host at_100_s plugin 00047535 64*30000 00 five*2300 = 0 items, 2300 refused; Whole
+at_100_s warning 01000131 c3a9*150 00 = Warning @107374182400 |||||\
+    éééééééééééééééééééééééééééééééééééééééééééééééééééééééééééééééé\
+    ééééééééééééééééééééééééééééééééééééééééééééééééééééééééééééééé|; Whole
+";
+
 #[test]
 fn says_its_items(rt: HostRuntime) -> Result<(), Fail> {
     let alloc = rt.alloc();
     let types = TypesDb::builtin(alloc)?;
-    for table in [FIELDS, TEXTS, LENGTHS, TIMES, VALUE_PARTS, MESSAGES] {
+    for table in [FIELDS, TEXTS, LENGTHS, TIMES, VALUE_PARTS, MESSAGES, LONG] {
         for row in table.lines() {
             let (words, want) = row.split_once(" = ").ok_or("no row")?;
             let bytes = packet(alloc, words)?;
             let decoded = items(alloc, bytes.as_slice(), &types, 10 * SECOND)?;
-            assert_eq!(rt; shown(alloc, &decoded)?.as_str(), want, "of {words}");
+            let copy = Decoded {
+                items: decoded.items.copy(alloc)?,
+                refused: decoded.refused.copy(alloc)?,
+                end: decoded.end,
+            };
+            assert_eq!(rt; shown(alloc, &copy)?.as_str(), want, "of {words}");
         }
     }
     Ok(())
@@ -217,16 +239,9 @@ const PLACES: [u64; 7] = [0, 6, 18, 24, 35, 50, 65];
 
 /// How the front of the sample of a length ends.
 fn end_at(length: u64) -> PacketEnd {
-    let mut end = PacketEnd::Whole;
-    for place in PLACES {
-        if place < length {
-            end = PacketEnd::BadLength(place);
-        }
-    }
-    if PLACES.contains(&length) {
-        PacketEnd::Whole
-    } else {
-        end
+    match PLACES.iter().rev().find(|place| **place <= length) {
+        Some(place) if *place < length => PacketEnd::BadLength(*place),
+        _ => PacketEnd::Whole,
     }
 }
 
@@ -236,66 +251,19 @@ fn each_front_of_the_sample(rt: HostRuntime) -> Result<(), Fail> {
     let types = TypesDb::builtin(alloc)?;
     let mut front = Vec::new(alloc);
     for byte in packet(alloc, SAMPLE)? {
+        front.push(byte)?;
         let length = front.len() as u64;
         let decoded = items(alloc, front.as_slice(), &types, SECOND)?;
-        assert_eq!(rt; decoded.end, end_at(length), "of {length}");
-        assert_eq!(rt; parts(alloc, front.as_slice())?.end, end_at(length));
-        assert_eq!(rt; decoded.items.len(), usize::from(length >= 50));
-        assert_eq!(rt; decoded.refused.len(), 0, "of {length}");
-        front.push(byte)?;
+        let as_wanted = decoded.end == end_at(length)
+            && decoded.items.len() == usize::from(length >= 50)
+            && decoded.refused.len() == usize::from(length == 65);
+        assert!(rt; as_wanted, "of {length}");
     }
-    assert_eq!(rt; front.len(), 65);
-    Ok(())
-}
-
-#[test]
-fn cuts_and_copies(rt: HostRuntime) -> Result<(), Fail> {
-    let alloc = rt.alloc();
-    let bytes = packet(
-        alloc,
-        "host at_100_s plugin derive five a_gauge warning hello",
-    )?;
-    let list = parts(alloc, bytes.as_slice())?.list.copy(alloc)?;
-    assert_eq!(rt; list.len(), 8);
-    let fifth = Part {
-        kind: VALUES,
-        place: 35,
-        length: 15,
-    };
-    assert_eq!(rt; list.as_slice().get(4), Some(&fifth));
-    let types = TypesDb::builtin(alloc)?;
-    let decoded = items(alloc, bytes.as_slice(), &types, SECOND)?;
-    let copy = Decoded {
-        items: decoded.items.copy(alloc)?,
-        refused: decoded.refused.copy(alloc)?,
-        end: decoded.end,
-    };
-    assert_eq!(rt; copy.items.len(), 2);
-    assert_eq!(rt;
-        shown(alloc, &copy)?.as_str(),
-        shown(alloc, &decoded)?.as_str()
-    );
-    Ok(())
-}
-
-#[test]
-fn long_packets(rt: HostRuntime) -> Result<(), Fail> {
-    let alloc = rt.alloc();
-    let types = TypesDb::builtin(alloc)?;
-    let bytes = packet(alloc, "at_100_s derive plugin host*100 five*2500")?;
-    let decoded = items(alloc, bytes.as_slice(), &types, SECOND)?;
-    assert_eq!(rt; decoded.items.len(), 2_500);
-    assert_eq!(rt; decoded.end, PacketEnd::Whole);
-    // A type of 30,000 bytes before each of 2,300 lists.
-    let bytes = packet(alloc, "host at_100_s plugin 00047535 64*30000 00 five*2300")?;
-    let decoded = items(alloc, bytes.as_slice(), &types, SECOND)?;
-    assert_eq!(rt; decoded.refused.len(), 2_300);
-    assert_eq!(rt; decoded.end, PacketEnd::Whole);
-    let bytes = packet(alloc, "at_100_s warning 01000131 c3a9*150 00")?;
-    let decoded = items(alloc, bytes.as_slice(), &types, SECOND)?;
-    let [Item::Note(note)] = decoded.items.as_slice() else {
-        return Err("no notification".into());
-    };
-    assert_eq!(rt; note.message.len(), 254);
+    let cut = parts(alloc, front.as_slice())?;
+    let list = cut.list.copy(alloc)?;
+    assert_eq!(rt; list.len(), 6);
+    for (part, place) in list.as_slice().iter().zip(PLACES) {
+        assert_eq!(rt; part.place, place);
+    }
     Ok(())
 }

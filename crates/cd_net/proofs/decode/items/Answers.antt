@@ -5,9 +5,9 @@ use Rattle.cd_net.specs.declared.packet.Part.{Part}
 use Rattle.std.specs.Option.{option_copied}
 use Rattle.cd_net.specs.Packet.{payload}
 use Rattle.cd_net.specs.Carried.{shown, with_field}
-use Rattle.cd_net.specs.Items.{item_fits, outcome}
+use Rattle.cd_net.specs.Items.{is_sound, item_fits, outcome}
 use Rattle.std.specs.List.{list_all}
-use Rattle.cd_net.proofs.Fitting.{each_item_fits}
+use Rattle.cd_net.proofs.Fitting.{each_item_fits, each_item_is_sound}
 use Rattle.cd_net.proofs.Decoding.{decoded_once, reads_none, reads_more, reads_all}
 use Rattle.cd_net.proofs.decode.items.Goals as goal
 
@@ -52,3 +52,8 @@ pub returns-in-Err-clause-fits : goal.returns-in-Err-clause-fits
 returns-in-Err-clause-fits c =
     let reads = c.loop-part.invariant.reads in
     ap (list_all (item_fits c.args.types.now)) reads.items_are ∙ each_item_fits c.args.types.now c.args.interval c.args.bytes.now reads.before
+
+pub returns-in-Err-clause-sound : goal.returns-in-Err-clause-sound
+returns-in-Err-clause-sound c =
+    let reads = c.loop-part.invariant.reads in
+    ap (list_all is_sound) reads.items_are ∙ each_item_is_sound c.args.types.now c.args.interval c.args.bytes.now reads.before

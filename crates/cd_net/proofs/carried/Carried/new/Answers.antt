@@ -4,4 +4,4 @@ use Rattle.cd_net.proofs.carried.Carried.new.Goals as goal
 
 pub returns : goal.returns
 unfolding last_of
-returns c = λ bytes. rw c.new.ensures refl
+returns c = λ bytes. rw c.new.ensures.text refl
