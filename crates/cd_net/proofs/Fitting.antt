@@ -1,5 +1,5 @@
 -- A values part that isn't refused has the fields of an identifier, and a list that fits the types.
-use Rattle.std.proofs.Common.{◌≡◌, ℕ, zero, suc, ◌==◌, Bool, true, false, cond, not, ◌&&◌, ◌||◌, List, [], ◌∷◌, ◌++◌, length, drop, Option, Some, None, Result, refl, sym, ap, ◌∙◌, arith}
+use Rattle.std.proofs.Common.{◌≡◌, ℕ, zero, suc, ◌==◌, Bool, true, false, cond, not, ◌&&◌, ◌||◌, List, [], ◌∷◌, ◌++◌, length, drop, Option, Some, None, Result, refl, sym, ap, ◌∙◌, subst, arith}
 use Rattle.std.specs.Prelude.{IfSome, is_none, unwrap_or}
 use Rattle.std.specs.List.{cons_option, find, list_all, list_any, zip}
 use Rattle.std.specs.Str.{bytes_eq}
@@ -24,8 +24,9 @@ use Rattle.cd_net.specs.declared.packet.Part.{Part}
 use Rattle.cd_net.specs.InForce.{InForce, in_force}
 use Rattle.cd_net.specs.Packet.{payload}
 use Rattle.cd_net.specs.Items.{each_behind, is_sound, item_fits, item_in, items_of, list_of, list_outcome, note_of, note_outcome, or_refusal, outcome, outcome_behind}
-use Rattle.cd_net.specs.Payload.{code_of, codes_of, coded_value, coded_values, numbers_of, payload_text}
+use Rattle.cd_net.specs.Payload.{code_of, codes_of, coded_value, numbers_of, payload_text}
 use Rattle.cd_net.specs.Refusals.{are_texts, are_times, first_refusal, has_time, is_code_of, is_gauge_code, list_tests, note_tests, set_in_force, set_of_type, sources_of, texts_of}
+use Rattle.cd_net.proofs.Values.{coded_values, payload_values_are}
 use Rattle.cd_net.proofs.Cleaned.{field_clean, is_message-message_of, type_stays}
 
 -- ---- nothing is refused
@@ -143,7 +144,7 @@ list_fits types global fields payload h = by (set_in_force types fields) refl (l
         let sources : sources_of (set_in_force types fields) ≡ set.sources = ap sources_of is in
         fits_named types (list_of global fields payload) set
         (ap (λ (name : List ℕ). set_named name types) (type_stays texts pass.good) ∙ is_named types fields.type_name set is)
-        (values_fit codes set.sources (numbers_of payload) (pass.count ∙ ap length sources) (ap (λ (s : List DataSource). list_all is_code_of (zip codes s)) (sym sources) ∙ pass.kinds) pass.no_gauge)
+        (subst (Fit set.sources) (payload_values_are payload) (values_fit codes set.sources (numbers_of payload) (pass.count ∙ ap length sources) (ap (λ (s : List DataSource). list_all is_code_of (zip codes s)) (sym sources) ∙ pass.kinds) pass.no_gauge))
 
 -- ---- each item
 
@@ -181,9 +182,9 @@ all_behind {A} P f h before (part ∷ parts) = by (f before part) (h before part
 pub each_item_fits : (types : List DataSet) (global : ℕ) (bytes : List ℕ) (parts : List Part) → list_all (item_fits types) (items_of types global bytes parts) ≡ true
 each_item_fits types global bytes parts =
     all_behind (item_fits types) (λ before part. item_in (outcome_behind types global bytes before part)) (λ before part.
-        let fields = in_force bytes before in
-        let payload = payload bytes part in
-        outcome_holds (item_fits types) (set_in_force types fields) global fields part.kind payload (list_fits types global fields payload) (λ h. refl)) [] parts
+    let fields = in_force bytes before in
+    let payload = payload bytes part in
+    outcome_holds (item_fits types) (set_in_force types fields) global fields part.kind payload (list_fits types global fields payload) (λ h. refl)) [] parts
 
 -- ---- each item is sound
 
@@ -219,6 +220,6 @@ note_sound fields message h =
 pub each_item_is_sound : (types : List DataSet) (global : ℕ) (bytes : List ℕ) (parts : List Part) → list_all is_sound (items_of types global bytes parts) ≡ true
 each_item_is_sound types global bytes parts =
     all_behind is_sound (λ before part. item_in (outcome_behind types global bytes before part)) (λ before part.
-        let fields = in_force bytes before in
-        let payload = payload bytes part in
-        outcome_holds is_sound (set_in_force types fields) global fields part.kind payload (list_sound (set_in_force types fields) global fields payload) (note_sound fields (payload_text payload))) [] parts
+    let fields = in_force bytes before in
+    let payload = payload bytes part in
+    outcome_holds is_sound (set_in_force types fields) global fields part.kind payload (list_sound (set_in_force types fields) global fields payload) (note_sound fields (payload_text payload))) [] parts

@@ -4,3 +4,4 @@ pub mod Decoding
 pub mod Fields
 pub mod Fitting
 pub mod Texts
+pub mod Values

@@ -1,6 +1,6 @@
 -- What a payload says.
-use Rattle.std.specs.Prelude.{ℕ, ◌+◌, ◌*◌, ◌==◌, ◌&&◌, Bool, List, [], ◌∷◌, length, take, drop, Option, Some, None, nat_lt, if◌then◌else◌}
-use Rattle.std.specs.List.{before_first, cons_option}
+use Rattle.std.specs.Prelude.{ℕ, ◌+◌, ◌*◌, ◌==◌, ◌&&◌, Bool, List, length, take, drop, Option, Some, None, nat_lt, if◌then◌else◌}
+use Rattle.std.specs.List.{before_first, enumerate_from, filter_map}
 use Rattle.std.specs.Str.{is_utf8}
 use Rattle.std.specs.Int.{w64, cast_signed}
 use Rattle.byteorder.specs.Endian.{big_number}
@@ -52,10 +52,8 @@ coded_value code bytes =
     else (if code == DERIVE_CODE then Some (Derive (cast_signed w64 (big_number 8 bytes)))
     else (if code == ABSOLUTE_CODE then Some (Absolute (big_number 8 bytes)) else None))
 
--- the values of some codes, each of the next eight bytes
-abbrev pub coded_values : List ℕ → List ℕ → List Value
-coded_values [] bytes = []
-coded_values (code ∷ codes) bytes = cons_option (coded_value code bytes) (coded_values codes (drop 8 bytes))
-
+-- the value of each code, from the eight bytes at eight times the code's place
 abbrev pub payload_values : List ℕ → List Value
-payload_values payload = coded_values (codes_of payload) (numbers_of payload)
+payload_values payload =
+    filter_map (λ coded. coded_value coded.1 (drop (8 * coded.0) (numbers_of payload)))
+    (enumerate_from 0 (codes_of payload))

@@ -97,7 +97,13 @@ fn shown(alloc: Global, decoded: &Decoded) -> Result<String, Fail> {
     let mut out = String::new(alloc);
     let (items, refused) = (decoded.items.as_slice(), decoded.refused.as_slice());
     if items.len() > 9 || refused.len() > 9 {
-        write!(out, "{} items, {} refused; {:?}", items.len(), refused.len(), decoded.end)?;
+        write!(
+            out,
+            "{} items, {} refused; {:?}",
+            items.len(),
+            refused.len(),
+            decoded.end
+        )?;
         return Ok(out);
     }
     for item in items {

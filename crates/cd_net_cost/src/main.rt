@@ -1,5 +1,7 @@
-//! What decoding a packet costs. With a word, TIMES, it decodes a full packet so often and prints the time. Without
-//! words it prints nothing.
+//! What decoding a packet costs. With a word, TIMES, it decodes a full packet so often and prints the time.
+//! Without words it prints nothing. It stands on cd_net, the types, the values and `anyhow`; its handles are the
+//! words, the clock and standard output. It has no spec files: read `specs/Items.antt` of cd_net. It keeps no
+//! state. A change begins at `FRONT` and `LIST`, the bytes of the packet.
 #![tactic(auto)]
 
 use cd_net::items;
