@@ -10,7 +10,7 @@
 mod laws;
 
 use cd_value::{DataSet, Sequence};
-pub use laws::settled_daemon_stays_settled;
+pub use laws::{settled_daemon_makes_no_call, settled_daemon_stays_settled};
 
 /// The interval where no configuration names one, in units of 2^-30 s: 10 seconds, as in collectd.conf(5), Interval.
 pub const INTERVAL: u64 = 10_737_418_240;

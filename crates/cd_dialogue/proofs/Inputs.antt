@@ -1,12 +1,12 @@
 -- The service of a whole input, step by step.
-use Rattle.cd_dialogue.proofs.Breaking.{begins_none, none_served, off_then}
+use Rattle.cd_dialogue.proofs.Breaking.{begins_none, lines_then, none_served, off_then}
 use Rattle.cd_dialogue.proofs.Closing.{closed_later}
 use Rattle.cd_dialogue.proofs.Exchanging.{exchanged_nothing}
 use Rattle.cd_dialogue.proofs.Going.{went_then}
-use Rattle.cd_dialogue.proofs.Serving.{closed_then, served_then, served_then_to}
-use Rattle.cd_dialogue.specs.Dialogues.{Broke, BrokeOff, Finished, LeftOff, ServesInput, Steps, Waited, WasClosed, WentOn, ended_in}
-use Rattle.cd_dialogue.specs.Inputs.{AllServed, AreFirstOf, ClosedEarly, IsOver, TooMuch}
-use Rattle.cd_dialogue.specs.Served.{ClosedAt, Served, ServedTo}
+use Rattle.cd_dialogue.proofs.Serving.{closed_then, gave_up_then, served_then, served_then_last}
+use Rattle.cd_dialogue.specs.Dialogues.{Broke, BrokeHearing, BrokeOff, FailedToHear, Finished, LeftOff, ServesInput, StepBroke, Steps, Waited, WasClosed, WentOn, ended_in}
+use Rattle.cd_dialogue.specs.Inputs.{AllServed, AreFirstOf, ClosedEarly, HearingFailed, IsOver, TooMuch}
+use Rattle.cd_dialogue.specs.Served.{ClosedAt, Served}
 use Rattle.cd_dialogue.specs.declared.ends.DialogueFault.TheVariants.{Link, Memory}
 use Rattle.cd_dialogue.specs.declared.ends.DialogueFault.{DialogueFault}
 use Rattle.cd_dialogue.specs.declared.ends.InputEnd.{InputEnd}
@@ -18,9 +18,10 @@ use Rattle.cd_io.proofs.Rises.{later_rose, rose_later}
 use Rattle.cd_io.proofs.Speaking.{spoke_then_nothing, spoke_then_said, still_ended}
 use Rattle.cd_io.specs.Link.{LinkTells, Spoke}
 use Rattle.cd_sock.specs.Lines.{BeginsWith, Cut, HasCut, cut, cut_lines, whole_lines}
-use Rattle.std.proofs.Common.{Err, IsErrAnd, List, Ok, Result, [], ap, append_assoc, arith, inl, inr, length, length-append, map, refl, subst, sym, take, ℕ, ◌++◌, ◌+◌, ◌-◌, ◌∙◌, ◌≡◌, ◌⊎◌}
+use Rattle.std.proofs.Common.{Err, IsErrAnd, List, Ok, Result, [], ap, append_assoc, arith, inl, inr, length, length-append, map, refl, subst, sym, take, ℕ, ◌++◌, ◌+◌, ◌-◌, ◌∙◌, ◌∷◌, ◌≡◌, ◌≤◌, ◌⊎◌}
 use Rattle.std.proofs.Math.Seq.{take-append-add}
-use Rattle.std.proofs.lemmas.List.{append-nil}
+use Rattle.std.proofs.lemmas.List.{append-nil, take_all}
+use Rattle.std.specs.Option.{option_to_list}
 
 -- what is taken of more bytes, where some were taken already
 take_more : (done more : List ℕ) (limit room : ℕ) → length done + room ≡ limit → take limit (done ++ more) ≡ done ++ take room more
@@ -33,14 +34,33 @@ over_later text start link after end first (inl (none, quiets)) s then = inl (st
 over_later text start link after end first (inr rose) s then =
     inr (rose_later start.quiets after.quiets end.quiets (later_rose start.quiets link.quiets after.quiets (omega (arith, first)) rose) (omega (arith, then)))
 
-module _ {S : Type 0} (serves : Next → Cut → List ℕ → S → S → Type 0) (gives_up : S → S → Type 0) (old new : S) (before after : LinkTells) where
+module _ {S : Type 0} (serves : Next → Cut → List ℕ → S → S → Type 0) (gives_up : Cut → S → S → Type 0) (old new : S) (before after : LinkTells) where
   -- it broke off in the service of an input
   left : (limit : ℕ) (fault : DialogueFault) (heard : List ℕ) (lines : List Cut) → AreFirstOf limit before after heard lines
       → BrokeOff serves gives_up old new before after heard lines fault → LeftOff serves gives_up old new before after limit fault
-  left limit Link heard lines first b =
-      record { heard = heard; lines = lines; first = first; said = b.said; unsaid = b.unsaid; served = b.gave; spoke = b.spoke; rose = b.rose }
-  left limit Memory heard lines first b =
-      record { heard = heard; lines = lines; first = first; text = b.text; served = b.gave_up; spoke = b.exchanged.spoke; faults = b.exchanged.faults }
+  left limit Link heard lines first b = inr (record {
+    heard = heard;
+    earlier = b.earlier;
+    last = b.last;
+    first = subst (AreFirstOf limit before after heard) b.lines_are first;
+    replies = b.replies;
+    said = b.said;
+    unsaid = b.unsaid;
+    some = b.some;
+    served = b.served;
+    spoke = b.spoke;
+    rose = b.rose;
+  })
+  left limit Memory heard lines first b = record {
+    heard = heard;
+    lines = b.earlier;
+    given_up = b.given_up;
+    first = subst (AreFirstOf limit before after heard) b.lines_are first;
+    text = b.text;
+    served = b.served;
+    spoke = b.exchanged.spoke;
+    faults = b.exchanged.faults;
+  }
 
   -- no call was quiet before it broke off
   never_quiet : (heard : List ℕ) (lines : List Cut) (fault : DialogueFault) → BrokeOff serves gives_up old new before after heard lines fault → after.quiets ≡ before.quiets
@@ -49,7 +69,7 @@ module _ {S : Type 0} (serves : Next → Cut → List ℕ → S → S → Type 0
 
   -- what was said before it broke off
   said_then : (heard : List ℕ) (lines : List Cut) (fault : DialogueFault) → BrokeOff serves gives_up old new before after heard lines fault → (text : List ℕ) × Spoke heard text before after
-  said_then heard lines Link b = (b.said, b.spoke)
+  said_then heard lines Link b = (b.replies ++ b.said, b.spoke)
   said_then heard lines Memory b = (b.text, b.exchanged.spoke)
 
   -- the fault that a `?` hands on
@@ -60,7 +80,7 @@ module _ {S : Type 0} (serves : Next → Cut → List ℕ → S → S → Type 0
       let L : DialogueFault → Type 0 = λ f. LeftOff serves gives_up old new before after limit f in subst L (sym is) off
 
 -- memory was lacking before anything was heard
-pub none_heard : {S : Type 0} (serves : Next → Cut → List ℕ → S → S → Type 0) (gives_up : S → S → Type 0) (server : S) (link : LinkTells) (limit : ℕ)
+pub none_heard : {S : Type 0} (serves : Next → Cut → List ℕ → S → S → Type 0) (gives_up : Cut → S → S → Type 0) (server : S) (link : LinkTells) (limit : ℕ)
     → LeftOff serves gives_up server server link link limit Memory
 none_heard serves gives_up server link limit =
     left serves gives_up server server link link limit Memory [] [] (inl (refl, begins_none _)) (none_served serves gives_up server link link [] (exchanged_nothing link))
@@ -137,15 +157,39 @@ module _ {S : Type 0} (serves : Next → Cut → List ℕ → S → S → Type 0
         faults = all.exchanged.faults;
       }
 
-  -- it broke off in a step
-  pub left_off : (gives_up : S → S → Type 0) (fault : DialogueFault) (new : S) (after : LinkTells)
-      → (heard : List ℕ) × Broke serves gives_up fault (ended_in (take room heard)) held now new link after heard → LeftOff serves gives_up old new start after limit fault
-  left_off gives_up fault new after (heard, b) =
+  -- it broke off in what a step heard
+  heard_and_left : (gives_up : Cut → S → S → Type 0) (fault : DialogueFault) (new : S) (after : LinkTells)
+      → BrokeHearing serves gives_up held now new link after room fault → LeftOff serves gives_up old new start after limit fault
+  heard_and_left gives_up fault new after (heard, b) =
       let off : BrokeOff serves gives_up old new start after (done ++ heard) (w.lines ++ b.lines) fault
       = off_then serves gives_up old now new start link after done heard w.lines b.lines w.text fault w.served w.exchanged b.broke in
       left serves gives_up old new start after limit fault (done ++ heard) (w.lines ++ b.lines)
       (inl (never_quiet serves gives_up old new start after (done ++ heard) (w.lines ++ b.lines) fault off, first_taken heard (w.lines ++ b.lines) (b.first done w.lines cut_now)))
       off
+
+  -- all lines that were heard were served when a call of `hear` failed
+  left_hearing : (new : S) (after : LinkTells) → FailedToHear serves now new link after
+      → HearingFailed (λ lines text. Served (serves next.GoOn) lines text old new) limit start after
+  left_hearing new after f =
+      let L : List Cut → Type 0 = λ ls. Served (serves next.GoOn) ls w.text old new in
+      let N : S → Type 0 = λ server. Served (serves next.GoOn) w.lines w.text old server in
+      let within : length done ≤ limit = omega (arith, size) in
+      record {
+        heard = done;
+        text = w.text;
+        short = within;
+        served = subst L (cut_now.whole ∙ ap (λ (bytes : List ℕ). map cut (whole_lines bytes)) (sym (take_all limit done within))) (subst N (sym f.server) w.served);
+        spoke = spoke_then_nothing done w.text start link after w.exchanged.spoke f.spoke;
+        rose = later_rose start.faults link.faults after.faults w.exchanged.spoke.faults f.rose;
+        quiets = f.quiets ∙ w.exchanged.quiets;
+      }
+
+  -- it broke off in a step
+  pub left_off : (gives_up : Cut → S → S → Type 0) (fault : DialogueFault) (new : S) (after : LinkTells)
+      → StepBroke serves gives_up held now new link after room fault → LeftOff serves gives_up old new start after limit fault
+  left_off gives_up Link new after (inl f) = inl (left_hearing new after f)
+  left_off gives_up Link new after (inr b) = heard_and_left gives_up Link new after b
+  left_off gives_up Memory new after b = heard_and_left gives_up Memory new after b
 
   -- ---- the end of the input
 
@@ -192,7 +236,7 @@ module _ {S : Type 0} (serves : Next → Cut → List ℕ → S → S → Type 0
     }
 
     -- it broke off at the last line
-    pub left_off_last : (gives_up : S → S → Type 0) (fault : DialogueFault) (last : S) (end : LinkTells) → Broke serves gives_up fault cut_lines held' new last after end []
+    pub left_off_last : (gives_up : Cut → S → S → Type 0) (fault : DialogueFault) (last : S) (end : LinkTells) → Broke serves gives_up fault cut_lines held' new last after end []
         → LeftOff serves gives_up old last start end limit fault
     left_off_last gives_up fault last end b =
         let said = said_then serves gives_up new last after end [] b.lines fault b.broke in
@@ -200,33 +244,29 @@ module _ {S : Type 0} (serves : Next → Cut → List ℕ → S → S → Type 0
         (inr (over_so_far said.0 end said.1 (never_quiet serves gives_up new last after end [] b.lines fault b.broke), omega (arith, size), b.first done w.lines cut_then))
         b.broke
       where
-        left_last : (gives_up : S → S → Type 0) (fault : DialogueFault) (last : S) (end : LinkTells) (lines : List Cut)
+        left_last : (gives_up : Cut → S → S → Type 0) (fault : DialogueFault) (last : S) (end : LinkTells) (lines : List Cut)
             → AreFirstOf limit start end done (w.lines ++ lines) → BrokeOff serves gives_up new last after end [] lines fault → LeftOff serves gives_up old last start end limit fault
-        left_last gives_up Link last end lines first b = record {
+        left_last gives_up Link last end lines first b = inr (record {
           heard = done;
-          lines = w.lines ++ lines;
-          first = first;
-          said = w.text ++ b.said;
+          earlier = w.lines ++ b.earlier;
+          last = b.last;
+          first = subst (AreFirstOf limit start end done) (lines_then w.lines lines b.earlier (b.last ∷ []) b.lines_are) first;
+          replies = w.text ++ b.replies;
+          said = b.said;
           unsaid = b.unsaid;
-          served = record {
-            goes = b.gave.goes;
-            served =
-                let T : List ℕ → Type 0 = λ t. ServedTo serves b.gave.goes (w.lines ++ lines) t old last in
-                subst T (sym (append_assoc w.text b.said b.unsaid)) (served_then_to serves b.gave.goes w.lines lines w.text (b.said ++ b.unsaid) old new last served_so_far b.gave.served);
-          };
-          spoke = spoke_then_said done w.text b.said start after end spoke_so_far b.spoke;
+          some = b.some;
+          served = served_then_last serves w.lines b.earlier w.text b.replies b.last (b.said ++ b.unsaid) old new last served_so_far b.served;
+          spoke = let T : List ℕ → Type 0 = λ t. Spoke done t start end in
+              subst T (sym (append_assoc w.text b.replies b.said)) (spoke_then_said done w.text (b.replies ++ b.said) start after end spoke_so_far b.spoke);
           rose = later_rose start.faults after.faults end.faults spoke_so_far.faults b.rose;
-        }
+        })
         left_last gives_up Memory last end lines first b = record {
           heard = done;
-          lines = w.lines ++ lines;
-          first = first;
+          lines = w.lines ++ b.earlier;
+          given_up = b.given_up;
+          first = subst (AreFirstOf limit start end done) (lines_then w.lines lines b.earlier (option_to_list b.given_up) b.lines_are) first;
           text = w.text ++ b.text;
-          served = record {
-            last = b.gave_up.last;
-            served = served_then (serves next.GoOn) w.lines lines w.text b.text old new b.gave_up.last served_so_far b.gave_up.served;
-            then = b.gave_up.then;
-          };
+          served = gave_up_then serves gives_up w.lines b.earlier b.given_up w.text b.text old new last served_so_far b.served;
           spoke = spoke_then_said done w.text b.text start after end spoke_so_far b.exchanged.spoke;
           faults = b.exchanged.faults ∙ s.faults ∙ w.exchanged.faults;
         }

@@ -1,4 +1,5 @@
 -- Lines that were served, one after another.
+use Rattle.cd_dialogue.specs.Dialogues.{GaveUp, ServedLast}
 use Rattle.cd_dialogue.specs.Exchanges.{Exchanged}
 use Rattle.cd_dialogue.specs.Served.{ClosedAt, Served, ServedTo}
 use Rattle.cd_dialogue.specs.declared.server.Next.TheVariants as next
@@ -78,7 +79,30 @@ module _ {S : Type 0} (serves : Next → Cut → List ℕ → S → S → Type 0
     closed = c.closed;
   }
 
-  pub served_then_to : (goes : Next) (lines more : List Cut) (text most : List ℕ) (old mid new : S)
-      → Served (serves next.GoOn) lines text old mid → ServedTo serves goes more most mid new → ServedTo serves goes (lines ++ more) (text ++ most) old new
-  served_then_to next.GoOn = served_then (serves next.GoOn)
-  served_then_to next.Close = closed_then
+  -- .. and then those of whose last one's reply all or a part was said
+  pub served_then_last : (lines more : List Cut) (text most : List ℕ) (line : Cut) (reply : List ℕ) (old mid new : S)
+      → Served (serves next.GoOn) lines text old mid → ServedLast serves mid new more most line reply
+      → ServedLast serves old new (lines ++ more) (text ++ most) line reply
+  served_then_last lines more text most line reply old mid new s l = record {
+    between = l.between;
+    goes = l.goes;
+    served = served_then (serves next.GoOn) lines more text most old mid l.between s l.served;
+    then = l.then;
+  }
+
+  -- .. and then those before one that may have been given up
+  pub gave_up_then : (gives_up : Cut → S → S → Type 0) (lines more : List Cut) (given_up : Option Cut) (text most : List ℕ) (old mid new : S)
+      → Served (serves next.GoOn) lines text old mid → GaveUp serves gives_up mid new more given_up most
+      → GaveUp serves gives_up old new (lines ++ more) given_up (text ++ most)
+  gave_up_then gives_up lines more given_up text most old mid new s g = record {
+    last = g.last;
+    served = served_then (serves next.GoOn) lines more text most old mid g.last s g.served;
+    then = g.then;
+  }
+
+  -- all lines are served, where they are and the last one is
+  pub served_all_of : (earlier : List Cut) (replies : List ℕ) (last : Cut) (reply : List ℕ) (old mid new : S)
+      → Served (serves next.GoOn) earlier replies old mid → serves next.GoOn last reply mid new
+      → Served (serves next.GoOn) (earlier ++ last ∷ []) (replies ++ reply) old new
+  served_all_of earlier replies last reply old mid new s l =
+      served_then (serves next.GoOn) earlier (last ∷ []) replies reply old mid new s (served_one (serves next.GoOn) last reply mid new l)

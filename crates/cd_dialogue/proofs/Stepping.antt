@@ -1,8 +1,8 @@
 -- What one step of a dialogue hears, and what it takes of that.
-use Rattle.cd_dialogue.proofs.Breaking.{broke_heard}
+use Rattle.cd_dialogue.proofs.Breaking.{broke_heard, broke_in_step}
 use Rattle.cd_dialogue.proofs.Closing.{closed_heard}
 use Rattle.cd_dialogue.proofs.Going.{went_heard}
-use Rattle.cd_dialogue.specs.Dialogues.{Broke, Steps, WasClosed, WentOn, ended_in}
+use Rattle.cd_dialogue.specs.Dialogues.{Broke, StepBroke, Steps, WasClosed, WentOn, ended_in}
 use Rattle.cd_dialogue.specs.Exchanges.{Exchanged}
 use Rattle.cd_dialogue.specs.declared.dialogue.TheConstants.{PIECE}
 use Rattle.cd_dialogue.specs.declared.ends.DialogueFault.{DialogueFault}
@@ -55,11 +55,12 @@ module _ (buffer read items : List ℕ) (len count room taken : ℕ)
   in_piece = omega (arith, within, same, piece, many)
 
   -- it broke off
-  pub step_broke : (gives_up : S → S → Type 0) (fault : DialogueFault) → Broke serves gives_up fault (ended_in (take taken read)) inside old new then after []
-      → (heard : List ℕ) × Broke serves gives_up fault (ended_in (take room heard)) held old new before after heard
+  pub step_broke : (gives_up : Cut → S → S → Type 0) (fault : DialogueFault) → Broke serves gives_up fault (ended_in (take taken read)) inside old new then after []
+      → StepBroke serves gives_up held old new before after room fault
   step_broke gives_up fault b =
       let C : Cut → Type 0 = λ c. Broke serves gives_up fault (ended_in (take taken read)) c old new then after [] in
       let B : List ℕ → Type 0 = λ bytes. Broke serves gives_up fault (ended_in bytes) held old new then after [] in
+      broke_in_step serves gives_up fault held old new before after room
       (take count buffer, broke_heard serves gives_up fault held old new before then after (take count buffer) _ p (subst B taken_is (subst C at_first b)))
 
   -- the server closed it

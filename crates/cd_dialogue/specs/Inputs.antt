@@ -3,7 +3,8 @@ use Rattle.cd_dialogue.specs.Exchanges.{Exchanged}
 use Rattle.cd_io.specs.Causes.{Rose}
 use Rattle.cd_io.specs.Link.{HasEnded, LinkTells, Spoke}
 use Rattle.cd_sock.specs.Lines.{BeginsWith, Cut, cut, cut_lines, whole_lines}
-use Rattle.std.specs.Prelude.{List, length, map, take, ℕ, ◌++◌, ◌<◌, ◌≡◌, ◌≤◌, ◌⊎◌}
+use Rattle.std.specs.Option.{option_to_list}
+use Rattle.std.specs.Prelude.{List, Option, [], length, map, take, ℕ, ◌++◌, ◌<◌, ◌∷◌, ◌≡◌, ◌≤◌, ◌⊎◌}
 
 -- the lines that end with a newline in what is taken of an input: no more than so many bytes
 abbrev pub lines_within : ℕ → List ℕ → List Cut
@@ -53,23 +54,48 @@ module _ (holds : List Cut → List ℕ → Type 0) (limit : ℕ) (before after 
     pub spoke : Spoke heard text before after
     pub faults : after.faults ≡ before.faults
 
-  -- the link failed; the first lines were served, and of their replies the beginning was said
-  pub record LinkLost : Type 0 where
+  -- a call of `hear` failed; the lines that end in what was heard were served, and their replies said
+  pub record HearingFailed : Type 0 where
     pub heard : List ℕ
-    pub lines : List Cut
-    pub first : AreFirstOf limit before after heard lines
-    pub said : List ℕ
-    pub unsaid : List ℕ
-    pub served : holds lines (said ++ unsaid)
-    pub spoke : Spoke heard said before after
-    pub rose : Rose before.faults after.faults
-
-  -- memory was lacking; the first lines were served, and their replies said
-  pub record MemoryLacked : Type 0 where
-    pub heard : List ℕ
-    pub lines : List Cut
-    pub first : AreFirstOf limit before after heard lines
     pub text : List ℕ
-    pub served : holds lines text
+    pub short : length heard ≤ limit
+    pub served : holds (lines_within limit heard) text
     pub spoke : Spoke heard text before after
-    pub faults : after.faults ≡ before.faults
+    pub rose : Rose before.faults after.faults
+    pub quiets : WasNeverQuiet before after
+
+-- a call of `say` failed; the first lines were served, the replies to all but the last one were said, and of the last
+-- one's the beginning, but not all of it
+pub record SayingFailed (holds : List Cut → List ℕ → Cut → List ℕ → Type 0) (limit : ℕ)
+    (before after : LinkTells) : Type 0 where
+  pub heard : List ℕ
+  pub earlier : List Cut
+  pub last : Cut
+  pub first : AreFirstOf limit before after heard (earlier ++ last ∷ [])
+  pub replies : List ℕ
+  pub said : List ℕ
+  pub unsaid : List ℕ
+  pub some : 0 < length unsaid
+  pub served : holds earlier replies last (said ++ unsaid)
+  pub spoke : Spoke heard (replies ++ said) before after
+  pub rose : Rose before.faults after.faults
+
+-- the link failed, by what holds of lines and the replies to them, and by what holds of lines and their replies and of
+-- one more line and its reply
+abbrev pub LinkLost : (List Cut → List ℕ → Type 0) → (List Cut → List ℕ → Cut → List ℕ → Type 0)
+    → ℕ → LinkTells → LinkTells → Type 0
+LinkLost holds holds_last limit before after =
+    HearingFailed holds limit before after ⊎ SayingFailed holds_last limit before after
+
+-- memory was lacking; the first lines were served and their replies said, but for a last line that may have been given
+-- up
+pub record MemoryLacked (holds : List Cut → Option Cut → List ℕ → Type 0) (limit : ℕ)
+    (before after : LinkTells) : Type 0 where
+  pub heard : List ℕ
+  pub lines : List Cut
+  pub given_up : Option Cut
+  pub first : AreFirstOf limit before after heard (lines ++ option_to_list given_up)
+  pub text : List ℕ
+  pub served : holds lines given_up text
+  pub spoke : Spoke heard text before after
+  pub faults : after.faults ≡ before.faults

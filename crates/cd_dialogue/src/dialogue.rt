@@ -1,7 +1,7 @@
 //! A dialogue, step by step.
-ghost use Rattle.cd_dialogue.specs.Dialogues.{Broke, Finished, Steps, ended_in};
+ghost use Rattle.cd_dialogue.specs.Dialogues.{Broke, Finished, StepBroke, Steps};
 ghost use Rattle.cd_sock.specs.Lines.{HasCut, cut_lines};
-ghost use Rattle.std.specs.Prelude.{IfErr, IfOk, List, OnOk, [], length, take, ℕ, ◌<◌, ◌≤◌};
+ghost use Rattle.std.specs.Prelude.{IfErr, IfOk, OnOk, []};
 
 use crate::pieces::{serve_cut, serve_piece};
 use crate::{DialogueFault, Next, Server, Step};
@@ -62,10 +62,9 @@ impl Dialogue {
         ensures ok { IfOk result (λ step. Steps S.serves_line
             self.old self.new server.old server.new
             (L.link_tells link.old) (L.link_tells link.new) room step) }
-        ensures broke { IfErr result (λ fault. (heard : List ℕ)
-            × Broke S.serves_line S.gives_up fault (ended_in (take room heard))
+        ensures broke { IfErr result (λ fault. StepBroke S.serves_line S.gives_up
             self.old server.old server.new
-            (L.link_tells link.old) (L.link_tells link.new) heard) }
+            (L.link_tells link.old) (L.link_tells link.new) room fault) }
     {
         match link.hear(self.buffer.as_mut_slice())? {
             Heard::Got(count) => {

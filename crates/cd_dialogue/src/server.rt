@@ -29,11 +29,11 @@ pub trait Server {
     ghost serves_line: { Next → Cut → List ℕ → Self → Self → Type 0 };
 
     /// A line was given up for want of memory: the server was the first, and is the second now.
-    ghost gives_up: { Self → Self → Type 0 };
+    ghost gives_up: { Cut → Self → Self → Type 0 };
 
     /// Serves a line.
     fn serve(&mut self, alloc: Global, line: &Line) -> Result<Response, Memory>
         ensures served { IfOk result (λ response.
             serves_line response.next (content line.now) response.reply self.old self.new) }
-        ensures gave_up { OnErr result (gives_up self.old self.new) };
+        ensures gave_up { OnErr result (gives_up (content line.now) self.old self.new) };
 }

@@ -16,7 +16,7 @@ struct Echo {
 impl Server for Echo {
     ghost serves_line = { λ next line reply old new. Unit {0} };
 
-    ghost gives_up = { λ old new. Unit {0} };
+    ghost gives_up = { λ line old new. Unit {0} };
 
     fn serve(&mut self, alloc: Global, line: &Line) -> Result<Response, Memory> {
         if self.lines == 0 {

@@ -244,7 +244,7 @@ impl<O: Outside> Server for Daemon<O> {
         (seen_of O.outside_pairs O.outside_shelf old)
         (seen_of O.outside_pairs O.outside_shelf new) };
 
-    ghost gives_up = { λ old new. KeepsPlaces O.outside_shelf old new };
+    ghost gives_up = { λ line old new. KeepsPlaces O.outside_shelf old new };
 
     fn serve(&mut self, alloc: Global, line: &Line) -> Result<Response, Memory> {
         let reply = self.answer(alloc, line)?;

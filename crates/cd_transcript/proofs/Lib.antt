@@ -2,3 +2,4 @@ pub mod Transcripts
 pub mod Events
 pub mod Determined
 mod Steady
+mod WorkedTranscripts

@@ -1,16 +1,17 @@
-use Rattle.cd_dialogue.proofs.Breaking.{handed_on, lost_first}
+use Rattle.cd_dialogue.proofs.Breaking.{handed_on}
 use Rattle.cd_dialogue.proofs.Closing.{went_as}
 use Rattle.cd_dialogue.proofs.Stepping.{heard_bytes, step_broke, step_closed, step_heard, step_too_long}
 use Rattle.cd_dialogue.proofs.dialogue.Dialogue.step.Goals as goal
 use Rattle.cd_dialogue.specs.declared.dialogue.TheConstants.{PIECE}
-use Rattle.std.proofs.Common.{Ok, Vec, [], ap, arith, length, vec_len, ℕ, ◌∙◌, ◌≡◌, ◌≤◌}
+use Rattle.std.proofs.Common.{Ok, Vec, ap, arith, inl, length, refl, vec_len, ℕ, ◌∙◌, ◌≡◌, ◌≤◌}
 
 vec_len_is : {A : Type 0} (v : Vec ℕ A) → length v.items ≡ PIECE → vec_len v ≡ PIECE
 vec_len_is v full = let is = v.ok.0 in omega (arith, is, full)
 
 pub returns-in_err-count-clause-broke : goal.returns-in_err-count-clause-broke
 returns-in_err-count-clause-broke g c =
-    handed_on _ _ _ c.from_residual.ensures.1 ([], lost_first _ _ _ _ _ _ _ c.in_err-count.ensures.hears.spoke c.in_err-count.ensures.hears.faults.1 c.in_err-count.ensures.hears.quiets)
+    handed_on _ _ _ c.from_residual.ensures.1
+    (inl (record { server = refl; spoke = c.in_err-count.ensures.hears.spoke; rose = c.in_err-count.ensures.hears.faults.1; quiets = c.in_err-count.ensures.hears.quiets }))
 
 pub returns-in_err-serve_piece-in-Got-clause-broke : goal.returns-in_err-serve_piece-in-Got-clause-broke
 returns-in_err-serve_piece-in-Got-clause-broke g c =
