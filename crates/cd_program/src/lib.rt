@@ -2,7 +2,7 @@
 //! status.
 //!
 //! - Stands on `cd_serve`, `cd_registry` and `cd_io`, and takes no handle.
-//! - Read first `specs/Program.antt`.
+//! - Read first `specs/Gathered.antt`, then `Program.antt`.
 //! - Its one writer, `w`, keeps what it gets.
 //! - Programs with stored runs are `collectd_main`, `collectd_line` and `collectd_usage`; each only calls `start`.
 #![tactic(auto)]
@@ -11,7 +11,7 @@ mod machine;
 mod outcome;
 
 pub use machine::start;
-pub use outcome::{Outcome, run_words};
+pub use outcome::{Outcome, run_gathered};
 
 #[cfg(test)]
 mod tests;
