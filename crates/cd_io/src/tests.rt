@@ -191,7 +191,10 @@ fn replies_are_gathered(rt: HostRuntime) -> Result<(), Fail> {
     assert_eq!(rt; link.hear(&mut buf), Ok(Heard::End));
     let (mut link, finished) = link.finish();
     assert_eq!(rt; finished, Ok(()));
-    assert_eq!(rt; link.output(), Some(b"0 Success\n1 Value found\n".as_slice()));
+    assert_eq!(rt;
+        link.output(),
+        Some(b"0 Success\n1 Value found\n".as_slice())
+    );
     assert_eq!(rt; link.say(b"3"), Ok(1));
 
     // What is said after the end isn't kept, and neither is what has no room.

@@ -41,16 +41,16 @@ fn replies_reach_the_link(rt: HostRuntime) -> Result<(), Fail> {
 #[test]
 fn last_replies_reach_the_link(rt: HostRuntime) -> Result<(), Fail> {
     let alloc = rt.alloc();
-    // The last line within the limit is answered, and then nothing more is heard.
-    let line = b"LISTVAL\n".as_slice();
+    // Both lines end within the limit, in the last piece; nothing more is heard.
+    let line = b"\nLISTVAL\n".as_slice();
     for (failing_says, end, said) in [
-        ([9], End::InputTooLong, "0 Values found\n"),
+        ([9], End::InputTooLong, "-1 Line too long\n0 Values found\n"),
         ([0], End::LinkFault, ""),
     ] {
         let mut bytes = Vec::new(alloc);
-        bytes.resize(INPUT_LIMIT - line.len(), b'\n')?;
+        bytes.resize(INPUT_LIMIT - line.len(), b' ')?;
         bytes.extend_from_slice(line)?;
-        bytes.push(b'\n')?;
+        bytes.push(b' ')?;
         let (ended, output) = ran(alloc, bytes, failing_says.as_slice())?;
         assert_eq!(rt; ended, end);
         assert_eq!(rt; output.as_slice(), said.as_bytes());

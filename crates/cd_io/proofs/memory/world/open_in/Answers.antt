@@ -5,7 +5,7 @@ use Rattle.std.specs.Option.{option_map}
 use Rattle.std.specs.Str.{bytes_eq}
 use Rattle.cd_io.specs.declared.memory.file.MemFile.{MemFile}
 use Rattle.cd_io.specs.declared.memory.source.MemSource.{MemSource}
-use Rattle.cd_io.specs.MemFile.{plan_at, plan_of, shown}
+use Rattle.cd_io.specs.MemFile.{plan_of, shown}
 use Rattle.cd_io.specs.MemSource.{BeginsBy, PlanTells, tells_of, told_first}
 use Rattle.cd_io.specs.World.{later}
 use Rattle.cd_io.proofs.Files.{found_at, opened_first, opens_first, opens_nothing}
