@@ -14,10 +14,12 @@ use std::alloc::Global;
 use std::process::ExitCode;
 
 /// Five lines, one of them refused.
-const LINES: &str = "PUTVAL h/p/derive interval=10 1000:5 1010:7\nGETVAL h/p/derive\nFOO\nPUTVAL h/p/gauge 1:1\nLISTVAL\n";
+const LINES: &str =
+    "PUTVAL h/p/derive interval=10 1000:5 1010:7\nGETVAL h/p/derive\nFOO\nPUTVAL h/p/gauge 1:1\nLISTVAL\n";
 
 /// What is written for them.
-const REPLIES: &str = "0 Success\n1 Value found\nvalue=0.200000\n-1 Unknown command\n0 Success\n2 Values found\n1010 h/p/derive\n1 h/p/gauge\n";
+const REPLIES: &str =
+    "0 Success\n1 Value found\nvalue=0.200000\n-1 Unknown command\n0 Success\n2 Values found\n1010 h/p/derive\n1 h/p/gauge\n";
 
 fn main(rt: HostRuntime) -> ExitCode {
     let Ok(well) = ends_well(rt.alloc()) else {
