@@ -37,7 +37,7 @@ fn ends_well(alloc: Global) -> Result<bool, Memory> {
     let words = words(alloc)?;
     let plugs = shelf(alloc)?;
     let probes: Vec<ShelvedProbeOf<()>> = Vec::new(alloc);
-    let mut world = MemWorld::new((2_000_000_000 * SECOND, SECOND), (5, 3));
+    let mut world = MemWorld::new(alloc, (2_000_000_000 * SECOND, SECOND), (5, 3));
     let lines = LINES.as_bytes().to_vec(alloc)?;
     let mut input = MemLink::new(alloc, lines, LinkPlan::new(alloc));
     let ran = run_of(
