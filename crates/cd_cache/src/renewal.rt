@@ -40,7 +40,7 @@ impl Renewal {
 
 impl CacheEntry {
     /// The entry of a list whose name has none.
-    pub fn first(
+    pub(crate) fn first(
         alloc: Global,
         set: &DataSet,
         list: &ValueList,
@@ -58,14 +58,14 @@ impl CacheEntry {
     }
 
     /// Whether the list of the entry is as new as another, or newer.
-    pub fn is_as_new_as(&self, list: &ValueList) -> bool
+    pub(crate) fn is_as_new_as(&self, list: &ValueList) -> bool
         ensures { result ≡ is_old (Some self.now) list.now }
     {
         list.time <= self.list.time
     }
 
     /// Takes what a list brings.
-    pub fn renew(&mut self, renewal: Renewal, list: &ValueList, now: u64)
+    pub(crate) fn renew(&mut self, renewal: Renewal, list: &ValueList, now: u64)
         ensures { self.new ≡ renewed_by renewal list.now now self.old }
     {
         let Renewal { id, values, rates } = renewal;

@@ -1,15 +1,17 @@
--- A daemon that stopped and has no list left stays so.
-use Rattle.std.proofs.Common.{◌≡◌, ◌<◌, ℕ, true, List, [], ◌∷◌, ◌++◌, length, Result, Ok, Err, refl, sym, ◌∙◌, subst, arith}
-use Rattle.cd_value.specs.declared.data.ValueList.{ValueList}
-use Rattle.cd_value.specs.declared.data.Offered.{Offered}
-use Rattle.cd_history.specs.declared.entry.Stopping.{Stopping}
-use Rattle.cd_history.specs.declared.entry.Entry.TheVariants as entry
-use Rattle.cd_history.specs.History.{Event, History, ◌▸◌, handles, is_stopped, kept}
-use Rattle.cd_history.specs.Order.{Continues}
-use Rattle.cd_daemon.specs.declared.Opening.{Opening}
+-- A daemon that stopped and has no list left stays so, and makes no call any more.
 use Rattle.cd_daemon.specs.Answers.{accept_answer}
-use Rattle.cd_daemon.specs.Legal.{IsLegal, Allowed}
+use Rattle.cd_daemon.specs.Calls.{calls_to}
+use Rattle.cd_daemon.specs.Legal.{Allowed, IsLegal}
 use Rattle.cd_daemon.specs.Settled.{IsSettled}
+use Rattle.cd_daemon.specs.declared.Opening.{Opening}
+use Rattle.cd_history.specs.History.{Event, History, handles, is_stopped, kept, ◌▸◌}
+use Rattle.cd_history.specs.Order.{Continues}
+use Rattle.cd_history.specs.declared.entry.Entry.TheVariants as entry
+use Rattle.cd_history.specs.declared.entry.Stopping.{Stopping}
+use Rattle.cd_value.specs.declared.data.Offered.{Offered}
+use Rattle.cd_value.specs.declared.data.ValueList.{ValueList}
+use Rattle.std.proofs.Common.{Err, List, Ok, Result, [], ap, arith, length, refl, subst, sym, true, ℕ, ◌++◌, ◌<◌, ◌∙◌, ◌∷◌, ◌≡◌}
+use Rattle.std.proofs.lemmas.List.{append-nil}
 
 -- after a stop no list is accepted
 none_accepted : (K : Opening) (P : History) (lists : List ValueList) (words : List ℕ) → is_stopped P ≡ true → accept_answer K P lists words ≡ Err (record {})
@@ -47,3 +49,18 @@ more K P (e ∷ later) legal s = one_more K (later ++ P) e legal.1 (more K P lat
 pub stays_settled : (K : Opening) (P H : History) → IsLegal K H → Continues P H → IsSettled P → IsSettled H
 stays_settled K P H legal c s =
     subst IsSettled (sym c.is) (more K P c.later (subst (IsLegal K) c.is legal) s)
+
+-- ---- the calls that it makes
+
+-- an entry that may follow makes none
+no_call : (K : Opening) (P : History) (e : Event) (r : ℕ) → Allowed K P e → IsSettled P → calls_to K r (P ▸ e) ≡ calls_to K r P
+no_call K P (entry.Handle a now reply) r may s =
+    let left : handles P < length (kept P) = may.1 in let all = s.handled in absurd (omega (arith, left, all))
+no_call K P e r may s = append-nil (calls_to K r P)
+
+no_calls : (K : Opening) (P later : History) (r : ℕ) → IsLegal K (later ++ P) → IsSettled P → calls_to K r (later ++ P) ≡ calls_to K r P
+no_calls K P [] r legal s = refl
+no_calls K P (e ∷ later) r legal s = no_call K (later ++ P) e r legal.1 (more K P later legal.0 s) ∙ no_calls K P later r legal.0 s
+
+pub makes_no_call : (K : Opening) (P H : History) (r : ℕ) → IsLegal K H → Continues P H → IsSettled P → calls_to K r H ≡ calls_to K r P
+makes_no_call K P H r legal c s = ap (calls_to K r) c.is ∙ no_calls K P c.later r (subst (IsLegal K) c.is legal) s

@@ -1,45 +1,45 @@
 -- The answers of a one-thread daemon after a history.
-use Rattle.std.specs.Prelude.{ℕ, Bool, ◌||◌, ◌&&◌, not, nat_eq, nat_le, is_some, if◌then◌else◌, List, [], ◌∷◌, map, length, slice_get, codes, Option, None, Some, Result, Ok, Err}
-use Rattle.std.specs.List.{find, list_any}
-use Rattle.cd_value.specs.declared.data.ValueList.{ValueList}
-use Rattle.cd_value.specs.declared.data.Offered.{Offered}
-use Rattle.cd_value.specs.declared.data.Offered.TheVariants.{Kept}
-use Rattle.cd_registry.specs.declared.calls.Call.{Call}
-use Rattle.cd_history.specs.declared.entry.Handled.{Handled}
-use Rattle.cd_history.specs.declared.entry.Found.{Found}
-use Rattle.cd_history.specs.declared.entry.Found.TheVariants as found
-use Rattle.cd_history.specs.declared.entry.RegisterFault.{RegisterFault}
-use Rattle.cd_history.specs.declared.entry.RegisterFault.TheVariants as refused
-use Rattle.cd_history.specs.declared.entry.RetireFault.{RetireFault}
-use Rattle.cd_history.specs.declared.entry.RetireFault.TheVariants as held_back
-use Rattle.cd_history.specs.declared.entry.Stopping.{Stopping}
-use Rattle.cd_history.specs.History.{History, handles, is_stopped, kept}
-use Rattle.cd_history.specs.Registrations.{Registration, registrations, live, live_number, is_text, is_plug, is_closed, is_retired}
-use Rattle.cd_history.specs.Leases.{taken_by, takes}
-use Rattle.cd_types.specs.Types.{set_named}
-use Rattle.cd_cache.specs.declared.entry.CacheEntry.{CacheEntry}
 use Rattle.cd_cache.specs.Cache.{cached}
 use Rattle.cd_cache.specs.Rows.{rows_of}
-use Rattle.cd_daemon.specs.declared.Opening.{Opening}
-use Rattle.cd_daemon.specs.Handling.{next_handling}
+use Rattle.cd_cache.specs.declared.entry.CacheEntry.{CacheEntry}
 use Rattle.cd_daemon.specs.Calls.{cache_after, calls_to, pending}
+use Rattle.cd_daemon.specs.Handling.{next_handling}
+use Rattle.cd_daemon.specs.declared.Opening.{Opening}
+use Rattle.cd_history.specs.History.{History, handles, is_stopped, kept}
+use Rattle.cd_history.specs.Leases.{taken_by, takes}
+use Rattle.cd_history.specs.Registrations.{Registration, is_closed, is_plug, is_retired, live, live_number, registrations}
+use Rattle.cd_history.specs.declared.entry.Found.TheVariants as found
+use Rattle.cd_history.specs.declared.entry.Found.{Found}
+use Rattle.cd_history.specs.declared.entry.Handled.{Handled}
+use Rattle.cd_history.specs.declared.entry.RegisterFault.TheVariants as refused
+use Rattle.cd_history.specs.declared.entry.RegisterFault.{RegisterFault}
+use Rattle.cd_history.specs.declared.entry.Stopping.{Stopping}
+use Rattle.cd_registry.specs.Faults.{is_reserved}
+use Rattle.cd_registry.specs.declared.calls.Call.{Call}
+use Rattle.cd_registry.specs.declared.faults.RetireFault.TheVariants as held_back
+use Rattle.cd_registry.specs.declared.faults.RetireFault.{RetireFault}
+use Rattle.cd_registry.specs.declared.faults.TheConstants.{LIVE_LIMIT}
+use Rattle.cd_types.specs.Types.{set_named}
+use Rattle.cd_value.specs.declared.data.DataSet.{DataSet}
+use Rattle.cd_value.specs.declared.data.Offered.TheVariants.{Kept}
+use Rattle.cd_value.specs.declared.data.Offered.{Offered}
+use Rattle.cd_value.specs.declared.data.ValueList.{ValueList}
+use Rattle.std.specs.List.{find}
+use Rattle.std.specs.Prelude.{Bool, Err, List, None, Ok, Option, Result, Some, [], if◌then◌else◌, is_some, length, map, nat_eq, nat_le, not, slice_get, ℕ, ◌&&◌, ◌||◌}
 
 -- the answer, unless a stop came before
 abbrev pub unless_stopped : {A : Type 0} → History → A → Result A Stopping
 unless_stopped P answer = if is_stopped P then Err (record {}) else Ok answer
 
--- the names of the daemon's own writers and listeners
-abbrev pub is_reserved : List ℕ → Bool
-is_reserved name = list_any (is_text name) (codes "threshold" ∷ codes "unixsock" ∷ codes "network" ∷ [])
-
--- at most 256 registrations are live
+-- the number of the new registration; none of the daemon's own names is given away, and no live one's, and at most
+-- LIVE_LIMIT registrations are live
 abbrev pub register_answer : History → List ℕ → Result ℕ RegisterFault
 register_answer P name =
     if is_stopped P then Err refused.Stopping
     else if is_reserved name then Err refused.Reserved
     else elim (live_number name P) [
       | Some r ↦ Err (refused.NameTaken r)
-      | None ↦ if nat_le 256 (length (live P)) then Err refused.TableFull else Ok (length (registrations P))
+      | None ↦ if nat_le LIVE_LIMIT (length (live P)) then Err refused.TableFull else Ok (length (registrations P))
     ]
 
 -- the number of the live registration of the name, or none
@@ -65,18 +65,18 @@ handle_answer K P now =
     let done = next_handling K (cache_after K P) P now in
     record { how = done.how; skipped = done.skipped }
 
--- the names of the data sources of a cached list
-abbrev pub source_names : Opening → CacheEntry → List (List ℕ)
-source_names K entry = elim (set_named entry.list.id.type_name K.types) [ None ↦ [] | Some set ↦ map (λ source. source.name) set.sources ]
+-- the names of the data sources of a cached list, by the types that are known
+abbrev pub source_names : List DataSet → CacheEntry → List (List ℕ)
+source_names types entry = elim (set_named entry.list.id.type_name types) [ None ↦ [] | Some set ↦ map (λ source. source.name) set.sources ]
 
-abbrev pub found_in : Opening → Option CacheEntry → Found
-found_in K None = found.NoSuchValue
-found_in K (Some entry) = found.Got (source_names K entry) entry.rates
+abbrev pub found_in : List DataSet → Option CacheEntry → Found
+found_in types None = found.NoSuchValue
+found_in types (Some entry) = found.Got (source_names types entry) entry.rates
 
 -- the rates that are cached under a name, or the rows of all
 abbrev pub query_answer : Opening → History → Option (List ℕ) → Found
 query_answer K P None = found.Listed (rows_of (cache_after K P))
-query_answer K P (Some name) = found_in K (cached name (cache_after K P))
+query_answer K P (Some name) = found_in K.types (cached name (cache_after K P))
 
 -- a plug-in that is at home and for which a call waits
 abbrev pub is_ready : Opening → History → Registration → Bool

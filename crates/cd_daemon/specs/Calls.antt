@@ -1,17 +1,16 @@
 -- The cache after a history, the calls that the entries make, and what each plug-in got.
-use Rattle.std.specs.Prelude.{ℕ, ◌-◌, nat_eq, List, [], ◌∷◌, ◌++◌, map, length}
-use Rattle.std.specs.List.{filter, flat_map}
+use Rattle.cd_cache.specs.Cache.{CacheMap, empty}
+use Rattle.cd_daemon.specs.Handling.{Post, next_handling}
+use Rattle.cd_daemon.specs.declared.Opening.{Opening}
+use Rattle.cd_history.specs.History.{Event, History, ◌▸◌}
+use Rattle.cd_history.specs.Leases.{answers_to, takes}
+use Rattle.cd_history.specs.Registrations.{is_text, registrations}
+use Rattle.cd_history.specs.declared.entry.Entry.TheVariants as entry
 use Rattle.cd_registry.specs.declared.calls.Answer.{Answer}
 use Rattle.cd_registry.specs.declared.calls.AnsweredCall.{AnsweredCall}
 use Rattle.cd_registry.specs.declared.calls.Call.{Call}
-use Rattle.cd_cache.specs.Cache.{CacheMap, empty}
-use Rattle.cd_history.specs.declared.entry.Entry.TheVariants as entry
-use Rattle.cd_history.specs.History.{Event, History, ◌▸◌}
-use Rattle.cd_history.specs.Registrations.{registrations, is_text}
-use Rattle.cd_history.specs.Leases.{takes, answers_to}
-use Rattle.cd_daemon.specs.declared.Opening.{Opening}
-use Rattle.cd_daemon.specs.declared.TheConstants.{TIMEOUT}
-use Rattle.cd_daemon.specs.Handling.{Post, next_handling}
+use Rattle.std.specs.List.{filter, flat_map}
+use Rattle.std.specs.Prelude.{List, [], length, map, nat_eq, ℕ, ◌++◌, ◌-◌, ◌∷◌}
 
 -- of some calls, those to r
 abbrev pub sent_to : ℕ → List Post → List Call
@@ -24,7 +23,7 @@ answered_calls more answers = []
 module _ (K : Opening) where
   -- the cache is empty at first, and each Handle leaves the one that its list leaves; no other entry changes it
   abbrev pub cache_after : History → CacheMap
-  cache_after [] = empty TIMEOUT
+  cache_after [] = empty K.timeout
   cache_after (P ▸ entry.Handle a now reply) = (next_handling K (cache_after P) P now).cache
   cache_after (P ▸ e) = cache_after P
 

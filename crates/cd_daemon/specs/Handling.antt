@@ -1,18 +1,19 @@
 -- What handling a value list does: what becomes of it, the cache then, and the calls that it makes.
-use Rattle.std.specs.Prelude.{ℕ, List, [], map, slice_get, Option, None, Some}
-use Rattle.cd_value.specs.declared.data.ValueList.{ValueList}
-use Rattle.cd_registry.specs.declared.calls.Call.{Call}
+use Rattle.cd_cache.specs.Cache.{CacheMap, outcome, updated}
+use Rattle.cd_cache.specs.declared.entry.Updated.TheVariants as outcomes
+use Rattle.cd_cache.specs.declared.entry.Updated.{Updated}
+use Rattle.cd_daemon.specs.declared.Opening.{Opening}
+use Rattle.cd_history.specs.History.{History, handles, kept}
+use Rattle.cd_history.specs.Registrations.{Registration, listeners, live}
+use Rattle.cd_history.specs.declared.entry.How.TheVariants as how
+use Rattle.cd_history.specs.declared.entry.How.{How}
 use Rattle.cd_registry.specs.declared.calls.Call.TheVariants as calls
+use Rattle.cd_registry.specs.declared.calls.Call.{Call}
 use Rattle.cd_registry.specs.declared.kinds.TheConstants.Kinds.{WRITE}
 use Rattle.cd_types.specs.Types.{set_named}
-use Rattle.cd_cache.specs.declared.entry.Updated.{Updated}
-use Rattle.cd_cache.specs.declared.entry.Updated.TheVariants as outcomes
-use Rattle.cd_cache.specs.Cache.{CacheMap, updated, outcome}
-use Rattle.cd_history.specs.declared.entry.How.{How}
-use Rattle.cd_history.specs.declared.entry.How.TheVariants as how
-use Rattle.cd_history.specs.History.{History, handles, kept}
-use Rattle.cd_history.specs.Registrations.{Registration, live, listeners}
-use Rattle.cd_daemon.specs.declared.Opening.{Opening}
+use Rattle.cd_value.specs.declared.data.DataSet.{DataSet}
+use Rattle.cd_value.specs.declared.data.ValueList.{ValueList}
+use Rattle.std.specs.Prelude.{List, None, Option, Some, [], map, slice_get, ℕ}
 
 -- a call that is made to a registration
 pub record Post : Type 0 where
@@ -33,9 +34,10 @@ abbrev pub as_how : Updated → How
 as_how outcomes.Stored = how.Stored
 as_how outcomes.Old = how.Old
 
--- the cache after a list that came at a moment. Its type is known wherever a list is handled.
-abbrev pub stored : Opening → ValueList → ℕ → CacheMap → CacheMap
-stored K list now cache = elim (set_named list.id.type_name K.types) [ None ↦ cache | Some set ↦ updated set list now cache ]
+-- the cache of a daemon that knows these types, after a list that came at a moment; the list's type is known wherever one
+-- is handled
+abbrev pub stored : List DataSet → ValueList → ℕ → CacheMap → CacheMap
+stored types list now cache = elim (set_named list.id.type_name types) [ None ↦ cache | Some set ↦ updated set list now cache ]
 
 -- What handling a list does, with what is in force, the cache, the live registrations and the moment: it is stored unless
 -- what is cached under its name is as new, no writer is skipped, and it is written to all live writers.
@@ -43,7 +45,7 @@ abbrev pub handling : Opening → CacheMap → List Registration → ValueList �
 handling K cache regs list now = record {
   how = as_how (outcome list cache);
   skipped = 0;
-  cache = stored K list now cache;
+  cache = stored K.types list now cache;
   posts = to_each (listeners WRITE regs) (calls.Write list);
 }
 

@@ -1,13 +1,13 @@
 -- Which histories are those of a one-thread daemon: each reply is its answer after the entries before it.
-use Rattle.std.specs.Prelude.{◌≡◌, ◌<◌, IsTrue, IfSome, true, [], length, Some}
-use Rattle.std.specs.List.{list_all}
-use Rattle.cd_types.specs.Types.{fits}
-use Rattle.cd_history.specs.declared.entry.Entry.TheVariants as entry
-use Rattle.cd_history.specs.History.{Event, History, ◌▸◌, handles, kept}
-use Rattle.cd_history.specs.Registrations.{closed_by}
-use Rattle.cd_history.specs.Leases.{taken_by}
+use Rattle.cd_daemon.specs.Answers.{accept_answer, close_answer, handle_answer, is_idle, next_call, query_answer, ready, register_answer, retire_answer}
 use Rattle.cd_daemon.specs.declared.Opening.{Opening}
-use Rattle.cd_daemon.specs.Answers.{register_answer, close_answer, retire_answer, accept_answer, handle_answer, query_answer, ready, next_call, is_idle}
+use Rattle.cd_history.specs.History.{Event, History, handles, kept, ◌▸◌}
+use Rattle.cd_history.specs.Leases.{taken_by}
+use Rattle.cd_history.specs.Registrations.{closed_by}
+use Rattle.cd_history.specs.declared.entry.Entry.TheVariants as entry
+use Rattle.cd_types.specs.Types.{fits}
+use Rattle.std.specs.List.{list_all}
+use Rattle.std.specs.Prelude.{IfSome, IsTrue, Some, [], length, true, ◌<◌, ◌≡◌}
 
 -- The entry may follow P. Notifications, ticks, flushes and readings aren't made yet.
 abbrev pub Allowed : Opening → History → Event → Type 0

@@ -1,11 +1,20 @@
 //! Laws of all histories of the daemon.
-ghost use Rattle.cd_history.specs.History.{History};
-ghost use Rattle.cd_history.specs.Order.{Continues};
-ghost use Rattle.cd_daemon.specs.declared.Opening.{Opening};
+ghost use Rattle.cd_daemon.specs.Calls.{calls_to};
 ghost use Rattle.cd_daemon.specs.Legal.{IsLegal};
 ghost use Rattle.cd_daemon.specs.Settled.{IsSettled};
+ghost use Rattle.cd_daemon.specs.declared.Opening.{Opening};
+ghost use Rattle.cd_history.specs.History.{History};
+ghost use Rattle.cd_history.specs.Order.{Continues};
+ghost use Rattle.std.specs.Prelude.{ℕ, ◌≡◌};
 
 /// A daemon that stopped and has no list left stays so, whatever comes after: it takes no list any more.
 pub fn settled_daemon_stays_settled()
-    ensures { (K : Opening) (P H : History) → IsLegal K H → Continues P H → IsSettled P → IsSettled H }
+    ensures { (K : Opening) (P H : History) →
+        IsLegal K H → Continues P H → IsSettled P → IsSettled H }
+{}
+
+/// Nor does it make a call any more, to any registration.
+pub fn settled_daemon_makes_no_call()
+    ensures { (K : Opening) (P H : History) (r : ℕ) →
+        IsLegal K H → Continues P H → IsSettled P → calls_to K r H ≡ calls_to K r P }
 {}

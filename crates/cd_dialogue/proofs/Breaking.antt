@@ -1,18 +1,21 @@
 -- A dialogue that broke off.
-use Rattle.std.proofs.Common.{◌≡◌, ℕ, Result, Ok, Err, IfErr, IsErrAnd, List, [], ◌∷◌, ◌++◌, take, drop, map, Option, Some, inl, inr, refl, sym, ap, ◌∙◌, subst, append_assoc}
+use Rattle.cd_dialogue.proofs.Exchanging.{exchanged_nothing, exchanged_then}
+use Rattle.cd_dialogue.proofs.Serving.{gave_up_then, served_none, served_then_last}
+use Rattle.cd_dialogue.specs.Dialogues.{AreFirst, Broke, BrokeHearing, BrokeOff, StepBroke, WentOn, ended_in}
+use Rattle.cd_dialogue.specs.Exchanges.{Exchanged}
+use Rattle.cd_dialogue.specs.Served.{Served}
+use Rattle.cd_dialogue.specs.declared.ends.DialogueFault.TheVariants.{Link, Memory}
+use Rattle.cd_dialogue.specs.declared.ends.DialogueFault.{DialogueFault}
+use Rattle.cd_dialogue.specs.declared.server.Next.TheVariants as next
+use Rattle.cd_dialogue.specs.declared.server.Next.{Next}
+use Rattle.cd_io.proofs.Rises.{later_rose}
+use Rattle.cd_io.proofs.Speaking.{spoke_then}
+use Rattle.cd_io.specs.Link.{LinkTells, SaidInPart, Spoke}
+use Rattle.cd_sock.proofs.Pieces.{whole_joined}
+use Rattle.cd_sock.specs.Lines.{BeginsWith, Cut, Finishes, Takes, cut, cut_lines, unfinished, whole_lines}
+use Rattle.std.proofs.Common.{Err, IfErr, IsErrAnd, List, None, Ok, Option, Result, Some, [], ap, append_assoc, drop, inr, map, refl, subst, sym, take, ℕ, ◌++◌, ◌∙◌, ◌∷◌, ◌≡◌}
 use Rattle.std.proofs.lemmas.List.{append-nil, map-append, take-append-drop}
 use Rattle.std.specs.Option.{option_to_list}
-use Rattle.cd_io.specs.Causes.{Rose}
-use Rattle.cd_io.specs.Link.{LinkTells, SaidInPart, Spoke}
-use Rattle.cd_io.proofs.Rises.{later_rose}
-use Rattle.cd_io.proofs.Speaking.{spoke_nothing, spoke_then}
-use Rattle.cd_sock.specs.Lines.{BeginsWith, Cut, Takes, Finishes, cut, cut_lines, unfinished, whole_lines}
-use Rattle.cd_sock.proofs.Pieces.{whole_joined}
-use Rattle.cd_dialogue.specs.declared.ends.DialogueFault.{DialogueFault}
-use Rattle.cd_dialogue.specs.declared.ends.DialogueFault.TheVariants.{Link, Memory}
-use Rattle.cd_dialogue.specs.Dialogues.{AreFirst, Broke, BrokeOff, WentOn, ended_in}
-use Rattle.cd_dialogue.specs.Served.{Served}
-use Rattle.cd_dialogue.proofs.Serving.{served_none, served_one, served_then}
 
 -- the fault that a `?` hands on
 pub handed_on : {T E : Type 0} (r : Result T E) (fault : E) (P : E → Type 0) → IsErrAnd r (λ e. e ≡ fault) → P fault → IfErr r P
@@ -35,62 +38,96 @@ begins_then all most lines (rest, is) (others, parts) =
 pub begins_behind : (given lines first : List Cut) → BeginsWith lines first → BeginsWith (given ++ lines) (given ++ first)
 begins_behind given lines first (rest, is) = (rest, ap (λ (ls : List Cut). given ++ ls) is ∙ sym (append_assoc given first rest))
 
+-- lines, and then others in two parts
+pub lines_then : (lines most earlier last : List Cut) → most ≡ earlier ++ last → lines ++ most ≡ (lines ++ earlier) ++ last
+lines_then lines most earlier last are = ap (λ (ls : List Cut). lines ++ ls) are ∙ sym (append_assoc lines earlier last)
+
 -- what ends in bytes is the first of what ends in more bytes
 pub whole_first : (bytes more : List ℕ) → BeginsWith (map cut (whole_lines (bytes ++ more))) (map cut (whole_lines bytes))
 whole_first bytes more =
     (map cut (whole_lines (unfinished bytes ++ more)), ap (map cut) (whole_joined bytes more) ∙ map-append cut (whole_lines bytes) (whole_lines (unfinished bytes ++ more)))
 
-module _ {S : Type 0} (serves : Cut → List ℕ → S → S → Type 0) (gives_up : S → S → Type 0) where
+module _ {S : Type 0} (serves : Next → Cut → List ℕ → S → S → Type 0) (gives_up : Cut → S → S → Type 0) where
   -- ---- a line
 
   -- its reply was said in part
-  pub reply_cut_short : (old new : S) (before after : LinkTells) (line : Cut) (reply : List ℕ) → serves line reply old new → SaidInPart reply before after
-      → BrokeOff serves gives_up old new before after [] (line ∷ []) Link
-  reply_cut_short old new before after line reply s p = record {
+  pub reply_cut_short : (goes : Next) (old new : S) (before after : LinkTells) (line : Cut) (reply : List ℕ) → serves goes line reply old new → SaidInPart reply before after
+      → after.quiets ≡ before.quiets → BrokeOff serves gives_up old new before after [] (line ∷ []) Link
+  reply_cut_short goes old new before after line reply s p quiets = record {
+    earlier = [];
+    last = line;
+    lines_are = refl;
+    replies = [];
     said = p.written;
     unsaid = p.unwritten;
-    served = let T : List ℕ → Type 0 = λ w. Served serves (line ∷ []) w old new in subst T p.parts (served_one serves line reply old new s);
+    some = p.some;
+    served = record {
+      between = old;
+      goes = goes;
+      served = served_none (serves next.GoOn) old;
+      then = let T : List ℕ → Type 0 = λ w. serves goes line w old new in subst T p.parts s;
+    };
     spoke = p.spoke;
     rose = p.rose;
+    quiets = quiets;
   }
 
   -- where a line was cut, this holds of it
-  pub at_cut : (end : Option Cut) (line : Cut) (old new : S) (before after : LinkTells) → end ≡ Some line → BrokeOff serves gives_up old new before after [] (line ∷ []) Link
-      → (lines : List Cut) × BeginsWith (option_to_list end) lines × BrokeOff serves gives_up old new before after [] lines Link
-  at_cut end line old new before after is b =
+  pub at_cut : (fault : DialogueFault) (end : Option Cut) (line : Cut) (old new : S) (before after : LinkTells) → end ≡ Some line
+      → BrokeOff serves gives_up old new before after [] (line ∷ []) fault
+      → (lines : List Cut) × BeginsWith (option_to_list end) lines × BrokeOff serves gives_up old new before after [] lines fault
+  at_cut fault end line old new before after is b =
       let E : Option Cut → Type 0 = λ o. BeginsWith (option_to_list o) (line ∷ []) in
       (line ∷ [], subst E (sym is) (begins_self (line ∷ [])), b)
 
   -- it was given up
-  pub line_given_up : (old new : S) (link : LinkTells) → gives_up old new → BrokeOff serves gives_up old new link link [] [] Memory
-  line_given_up old new link g = record { text = []; gave_up = record { last = old; served = served_none serves old; then = inr g }; spoke = spoke_nothing link }
+  pub line_given_up : (line : Cut) (old new : S) (link : LinkTells) → gives_up line old new → BrokeOff serves gives_up old new link link [] (line ∷ []) Memory
+  line_given_up line old new link g = record {
+    earlier = [];
+    given_up = Some line;
+    lines_are = refl;
+    text = [];
+    served = record { last = old; served = served_none (serves next.GoOn) old; then = g };
+    exchanged = exchanged_nothing link;
+  }
 
   -- memory was lacking before any line
-  pub none_served : (server : S) (before after : LinkTells) (heard : List ℕ) → Spoke heard [] before after → BrokeOff serves gives_up server server before after heard [] Memory
-  none_served server before after heard p = record { text = []; gave_up = record { last = server; served = served_none serves server; then = inl refl }; spoke = p }
+  pub none_served : (server : S) (before after : LinkTells) (heard : List ℕ) → Exchanged heard [] before after → BrokeOff serves gives_up server server before after heard [] Memory
+  none_served server before after heard p = record {
+    earlier = [];
+    given_up = None;
+    lines_are = refl;
+    text = [];
+    served = record { last = server; served = served_none (serves next.GoOn) server; then = refl };
+    exchanged = p;
+  }
 
   -- ---- after a part that went on
 
   pub off_then : (old between new : S) (before then after : LinkTells) (heard more : List ℕ) (lines most : List Cut) (text : List ℕ) (fault : DialogueFault)
-      → Served serves lines text old between → Spoke heard text before then → BrokeOff serves gives_up between new then after more most fault
+      → Served (serves next.GoOn) lines text old between → Exchanged heard text before then → BrokeOff serves gives_up between new then after more most fault
       → BrokeOff serves gives_up old new before after (heard ++ more) (lines ++ most) fault
   off_then old between new before then after heard more lines most text Link s p b = record {
-    said = text ++ b.said;
+    earlier = lines ++ b.earlier;
+    last = b.last;
+    lines_are = lines_then lines most b.earlier (b.last ∷ []) b.lines_are;
+    replies = text ++ b.replies;
+    said = b.said;
     unsaid = b.unsaid;
-    served =
-        let T : List ℕ → Type 0 = λ w. Served serves (lines ++ most) w old new in
-        subst T (sym (append_assoc text b.said b.unsaid)) (served_then serves lines most text (b.said ++ b.unsaid) old between new s b.served);
-    spoke = spoke_then heard more text b.said before then after p b.spoke;
-    rose = later_rose before.faults then.faults after.faults p.faults b.rose;
+    some = b.some;
+    served = served_then_last serves lines b.earlier text b.replies b.last (b.said ++ b.unsaid) old between new s b.served;
+    spoke = let T : List ℕ → Type 0 = λ w. Spoke (heard ++ more) w before after in
+        subst T (sym (append_assoc text b.replies b.said)) (spoke_then heard more text (b.replies ++ b.said) before then after p.spoke b.spoke);
+    rose = later_rose before.faults then.faults after.faults p.spoke.faults b.rose;
+    quiets = b.quiets ∙ p.quiets;
   }
   off_then old between new before then after heard more lines most text Memory s p b = record {
+    earlier = lines ++ b.earlier;
+    given_up = b.given_up;
+    lines_are = lines_then lines most b.earlier (option_to_list b.given_up) b.lines_are;
     text = text ++ b.text;
-    gave_up = record {
-      last = b.gave_up.last;
-      served = served_then serves lines most text b.text old between b.gave_up.last s b.gave_up.served;
-      then = b.gave_up.then;
-    };
-    spoke = spoke_then heard more text b.text before then after p b.spoke;
+    served = gave_up_then serves gives_up lines b.earlier b.given_up text b.text old between new s b.served;
+    exchanged = exchanged_then heard more text b.text before then after p b.exchanged;
   }
 
   -- ---- parts of a dialogue
@@ -106,16 +143,7 @@ module _ {S : Type 0} (serves : Cut → List ℕ → S → S → Type 0) (gives_
   lacked_first held server link bytes = record {
     lines = [];
     first = none_first held bytes;
-    broke = none_served server link link [] (spoke_nothing link);
-  }
-
-  -- the link failed before anything was heard
-  pub lost_first : (held : Cut) (server : S) (before after : LinkTells) (bytes : List ℕ) → Spoke [] [] before after → Rose before.faults after.faults
-      → Broke serves gives_up Link (ended_in bytes) held server server before after []
-  lost_first held server before after bytes p rose = record {
-    lines = [];
-    first = none_first held bytes;
-    broke = record { said = []; unsaid = []; served = served_none serves server; spoke = p; rose = rose };
+    broke = none_served server link link [] (exchanged_nothing link);
   }
 
   -- it broke off at the line that the front of a piece ended
@@ -160,7 +188,7 @@ module _ {S : Type 0} (serves : Cut → List ℕ → S → S → Type 0) (gives_
         let L : List Cut → Type 0 = B (earlier ++ (taken ++ most)) in
         let W : List ℕ → Type 0 = λ bytes. B bytes ((given ++ w.lines) ++ b.lines) in
         subst L (append_assoc given w.lines b.lines) (subst W (append_assoc earlier taken most) (b.first (earlier ++ taken) (given ++ w.lines) (w.cuts earlier given h)));
-    broke = off_then old between new before then after heard more w.lines b.lines w.text fault w.served w.spoke b.broke;
+    broke = off_then old between new before then after heard more w.lines b.lines w.text fault w.served w.exchanged b.broke;
   }
 
   -- it broke off in the rest of a piece
@@ -173,12 +201,18 @@ module _ {S : Type 0} (serves : Cut → List ℕ → S → S → Type 0) (gives_
 
   -- it broke off in what was heard
   pub broke_heard : (fault : DialogueFault) (held : Cut) (old new : S) (before then after : LinkTells) (heard taken : List ℕ)
-      → Spoke heard [] before then → Broke serves gives_up fault (ended_in taken) held old new then after []
+      → Exchanged heard [] before then → Broke serves gives_up fault (ended_in taken) held old new then after []
       → Broke serves gives_up fault (ended_in taken) held old new before after heard
   broke_heard fault held old new before then after heard taken p b = record {
     lines = b.lines;
     first = b.first;
     broke =
         let O : List ℕ → Type 0 = λ h. BrokeOff serves gives_up old new before after h b.lines fault in
-        subst O (append-nil heard) (off_then old old new before then after heard [] [] b.lines [] fault (served_none serves old) p b.broke);
+        subst O (append-nil heard) (off_then old old new before then after heard [] [] b.lines [] fault (served_none (serves next.GoOn) old) p b.broke);
   }
+
+  -- .. and a step with it
+  pub broke_in_step : (fault : DialogueFault) (held : Cut) (old new : S) (before after : LinkTells) (room : ℕ)
+      → BrokeHearing serves gives_up held old new before after room fault → StepBroke serves gives_up held old new before after room fault
+  broke_in_step Link held old new before after room b = inr b
+  broke_in_step Memory held old new before after room b = b

@@ -1,15 +1,18 @@
 -- A dialogue that goes on, part by part.
-use Rattle.std.proofs.Common.{◌≡◌, ◌≤◌, ◌<◌, ℕ, List, [], ◌∷◌, ◌++◌, length, take, drop, Option, true, sym, ap, ◌∙◌, subst, append_assoc, arith}
-use Rattle.std.proofs.lemmas.List.{append-nil, take-append-drop}
-use Rattle.std.proofs.lemmas.Bool.{eqb-true}
-use Rattle.std.specs.Prelude.{◌==◌}
-use Rattle.std.specs.Option.{option_to_list}
-use Rattle.cd_io.specs.Link.{LinkTells, Spoke}
-use Rattle.cd_io.proofs.Speaking.{spoke_nothing, spoke_then}
-use Rattle.cd_sock.specs.Lines.{Cut, HasCut, Takes}
-use Rattle.cd_dialogue.specs.Dialogues.{WentOn}
-use Rattle.cd_dialogue.specs.Served.{Served}
+use Rattle.cd_dialogue.proofs.Exchanging.{exchanged_nothing, exchanged_then, exchanged_then_said}
 use Rattle.cd_dialogue.proofs.Serving.{served_none, served_then}
+use Rattle.cd_dialogue.specs.Dialogues.{WentOn}
+use Rattle.cd_dialogue.specs.Exchanges.{Exchanged}
+use Rattle.cd_dialogue.specs.Served.{Served}
+use Rattle.cd_dialogue.specs.declared.server.Next.TheVariants as next
+use Rattle.cd_dialogue.specs.declared.server.Next.{Next}
+use Rattle.cd_io.specs.Link.{LinkTells}
+use Rattle.cd_sock.specs.Lines.{Cut, HasCut, Takes}
+use Rattle.std.proofs.Common.{List, Option, [], ap, append_assoc, arith, drop, length, subst, sym, take, true, ℕ, ◌++◌, ◌<◌, ◌∙◌, ◌∷◌, ◌≡◌, ◌≤◌}
+use Rattle.std.proofs.lemmas.Bool.{eqb-true}
+use Rattle.std.proofs.lemmas.List.{append-nil, take-append-drop}
+use Rattle.std.specs.Option.{option_to_list}
+use Rattle.std.specs.Prelude.{◌==◌}
 
 -- a call of `take` uses some of a piece
 pub some_used : (held held' : Cut) (piece : List ℕ) (used : ℕ) (line : Option Cut) → Takes held piece used line held'
@@ -26,7 +29,7 @@ cuts_then held mid held' lines more first next a b earlier given h =
     let L : List Cut → Type 0 = λ ls. HasCut ((earlier ++ first) ++ next) ls held' in
     subst B (append_assoc earlier first next) (subst L (append_assoc given lines more) (b (earlier ++ first) (given ++ lines) (a earlier given h)))
 
-module _ {S : Type 0} (serves : Cut → List ℕ → S → S → Type 0) where
+module _ {S : Type 0} (serves : Next → Cut → List ℕ → S → S → Type 0) where
   -- before anything was heard
   pub went_none : (held : Cut) (server : S) (link : LinkTells) → WentOn serves held held server server link link [] []
   went_none held server link = record {
@@ -36,8 +39,8 @@ module _ {S : Type 0} (serves : Cut → List ℕ → S → S → Type 0) where
         let B : List ℕ → Type 0 = λ bytes. HasCut bytes (given ++ []) held in
         let L : List Cut → Type 0 = λ ls. HasCut earlier ls held in
         subst B (sym (append-nil earlier)) (subst L (sym (append-nil given)) h);
-    served = served_none serves server;
-    spoke = spoke_nothing link;
+    served = served_none (serves next.GoOn) server;
+    exchanged = exchanged_nothing link;
   }
 
   -- two parts, one after the other
@@ -48,16 +51,16 @@ module _ {S : Type 0} (serves : Cut → List ℕ → S → S → Type 0) where
     lines = a.lines ++ b.lines;
     text = a.text ++ b.text;
     cuts = cuts_then held mid held' a.lines b.lines taken most a.cuts b.cuts;
-    served = served_then serves a.lines b.lines a.text b.text old between new a.served b.served;
-    spoke = spoke_then heard more a.text b.text before then after a.spoke b.spoke;
+    served = served_then (serves next.GoOn) a.lines b.lines a.text b.text old between new a.served b.served;
+    exchanged = exchanged_then heard more a.text b.text before then after a.exchanged b.exchanged;
   }
 
   -- the front of a piece was taken, and the line that it ended, if it did, was served
   pub went_front : (held held' : Cut) (old new : S) (before after : LinkTells) (piece : List ℕ) (used : ℕ) (line : Option Cut)
-      → Takes held piece used line held' → (text : List ℕ) × Served serves (option_to_list line) text old new × Spoke [] text before after
+      → Takes held piece used line held' → (text : List ℕ) × Served (serves next.GoOn) (option_to_list line) text old new × Exchanged [] text before after
       → WentOn serves held held' old new before after [] (take used piece)
-  went_front held held' old new before after piece used line t (text, served, spoke) =
-      record { lines = option_to_list line; text = text; cuts = t.cuts; served = served; spoke = spoke }
+  went_front held held' old new before after piece used line t (text, served, exchanged) =
+      record { lines = option_to_list line; text = text; cuts = t.cuts; served = served; exchanged = exchanged }
 
   -- the first part of a piece was taken, and more of it
   pub went_more : (held mid held' : Cut) (old between new : S) (before then after : LinkTells) (done rest : List ℕ) (used : ℕ)
@@ -76,13 +79,13 @@ module _ {S : Type 0} (serves : Cut → List ℕ → S → S → Type 0) where
 
   -- bytes were heard, and of them some were taken
   pub went_heard : (held held' : Cut) (old new : S) (before then after : LinkTells) (heard taken : List ℕ)
-      → Spoke heard [] before then → WentOn serves held held' old new then after [] taken → WentOn serves held held' old new before after heard taken
+      → Exchanged heard [] before then → WentOn serves held held' old new then after [] taken → WentOn serves held held' old new before after heard taken
   went_heard held held' old new before then after heard taken p w = record {
     lines = w.lines;
     text = w.text;
     cuts = w.cuts;
     served = w.served;
-    spoke = let H : List ℕ → Type 0 = λ h. Spoke h w.text before after in subst H (append-nil heard) (spoke_then heard [] [] w.text before then after p w.spoke);
+    exchanged = exchanged_then_said heard w.text before then after p w.exchanged;
   }
 
 -- what stays of a piece

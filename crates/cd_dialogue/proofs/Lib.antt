@@ -1,4 +1,6 @@
 pub mod Breaking
+pub mod Closing
+pub mod Exchanging
 pub mod Families
 pub mod Going
 pub mod Inputs

@@ -1,3 +1,4 @@
 pub mod Dialogues
+pub mod Exchanges
 pub mod Inputs
 pub mod Served

@@ -1,10 +1,10 @@
 //! A dialogue, step by step.
-ghost use Rattle.std.specs.Prelude.{[], ◌≤◌, ◌<◌, List, ℕ, IfOk, IfErr, OnOk, take, length};
+ghost use Rattle.cd_dialogue.specs.Dialogues.{Broke, Finished, StepBroke, Steps};
 ghost use Rattle.cd_sock.specs.Lines.{HasCut, cut_lines};
-ghost use Rattle.cd_dialogue.specs.Dialogues.{Broke, Closed, Steps, ended_in};
+ghost use Rattle.std.specs.Prelude.{IfErr, IfOk, OnOk, []};
 
 use crate::pieces::{serve_cut, serve_piece};
-use crate::{DialogueFault, Server, Step};
+use crate::{DialogueFault, Next, Server, Step};
 use cd_io::{Heard, Link};
 use cd_sock::LineCutter;
 use cd_value::Memory;
@@ -17,7 +17,7 @@ pub const PIECE: usize = 65_536;
 /// A dialogue with a peer: what came of an unfinished line, and room for a piece of what the peer sends. Contracts see
 /// the unfinished line.
 ///
-/// Once it broke off, nothing is promised of further steps.
+/// Once it broke off or was closed, nothing is promised of further steps.
 #[derive(Drop)]
 pub struct Dialogue {
     cutter: LineCutter,
@@ -25,14 +25,15 @@ pub struct Dialogue {
 }
 
 impl Model for Dialogue {
-    ghost use Rattle.std.specs.Prelude.{◌<◌, length};
+    ghost use Rattle.cd_dialogue.specs.declared.dialogue.TheConstants.{PIECE};
     ghost use Rattle.cd_sock.specs.Lines.{Cut};
+    ghost use Rattle.std.specs.Prelude.{length, ◌≡◌};
 
     ghost Value = { Cut };
 
     ghost view = { λ dialogue. dialogue.cutter };
 
-    ghost invariant = { λ dialogue. 0 < length dialogue.buffer.items };
+    ghost invariant = { λ dialogue. length dialogue.buffer.items ≡ PIECE };
 }
 
 impl Dialogue {
@@ -49,7 +50,8 @@ impl Dialogue {
 
     /// Hears what comes next, serves the lines that end in it, and says each reply in one piece, offering again
     /// what wasn't taken. No more than `room` bytes are taken; where more came, what is beyond them is lost. At a
-    /// quiet and at the end the unfinished line stays held. A session passes `usize::MAX` as its room.
+    /// quiet and at the end the unfinished line stays held. Where the server closes the dialogue at a line, no line
+    /// behind it is served. A session passes `usize::MAX` as its room.
     pub fn step<L: Link, S: Server>(
         &mut self,
         alloc: Global,
@@ -60,15 +62,18 @@ impl Dialogue {
         ensures ok { IfOk result (λ step. Steps S.serves_line
             self.old self.new server.old server.new
             (L.link_tells link.old) (L.link_tells link.new) room step) }
-        ensures broke { IfErr result (λ fault. (heard : List ℕ)
-            × Broke S.serves_line S.gives_up fault (ended_in (take room heard))
+        ensures broke { IfErr result (λ fault. StepBroke S.serves_line S.gives_up
             self.old server.old server.new
-            (L.link_tells link.old) (L.link_tells link.new) heard) }
+            (L.link_tells link.old) (L.link_tells link.new) room fault) }
     {
         match link.hear(self.buffer.as_mut_slice())? {
             Heard::Got(count) => {
                 let taken = count.min(room);
-                serve_piece(alloc, link, server, &mut self.cutter, &self.buffer[..taken])?;
+                let piece = &self.buffer[..taken];
+                match serve_piece(alloc, link, server, &mut self.cutter, piece)? {
+                    Next::Close => return Ok(Step::Closed),
+                    Next::GoOn => {}
+                }
                 if taken < count {
                     return Ok(Step::TooLong);
                 }
@@ -79,23 +84,24 @@ impl Dialogue {
         }
     }
 
-    /// Serves the last line, where it has bytes but no newline, and says its reply.
+    /// Serves the last line, where it has bytes but no newline, and says its reply. It answers what comes after it,
+    /// `GoOn` where there is none.
     pub fn finish<L: Link, S: Server>(
         &mut self,
         alloc: Global,
         link: &mut L,
         server: &mut S,
-    ) -> Result<(), DialogueFault>
-        ensures ok { OnOk result (Closed S.serves_line
+    ) -> Result<Next, DialogueFault>
+        ensures ok { IfOk result (λ next. Finished S.serves_line
             self.old self.new server.old server.new
-            (L.link_tells link.old) (L.link_tells link.new)) }
+            (L.link_tells link.old) (L.link_tells link.new) next) }
         ensures begins { OnOk result (HasCut [] [] self.new) }
         ensures broke { IfErr result (λ fault. Broke S.serves_line S.gives_up fault cut_lines
             self.old server.old server.new
             (L.link_tells link.old) (L.link_tells link.new) []) }
     {
         let line = self.cutter.finish();
-        serve_cut(alloc, link, server, &line)?;
-        Ok(())
+        let next = serve_cut(alloc, link, server, &line)?;
+        Ok(next)
     }
 }

@@ -7,10 +7,12 @@ use cd_value::Memory;
 /// What one step of a dialogue brought.
 #[derive(Clone, Copy, Debug, PartialEq, Eq)]
 pub enum Step {
-    /// This many bytes, at least 1.
+    /// This many bytes, at least 1 and at most `PIECE`.
     Heard(usize),
     /// More bytes than are taken.
     TooLong,
+    /// Bytes with a line at which the server closed the dialogue; what came behind that line is lost.
+    Closed,
     /// The end of what the peer sends.
     Ended,
     /// Nothing within the link's own limit of waiting.
@@ -24,6 +26,8 @@ pub enum InputEnd {
     Ended,
     /// More bytes came than are taken.
     TooLong,
+    /// The server closed the dialogue.
+    Closed,
 }
 
 /// Why a dialogue breaks off.

@@ -1,13 +1,13 @@
 //! The service of a whole input.
 ghost use Rattle.cd_dialogue.specs.Dialogues.{ServesInput};
 
-use crate::{Dialogue, DialogueFault, InputEnd, Server, Step};
+use crate::{Dialogue, DialogueFault, InputEnd, Next, Server, Step};
 use cd_io::Link;
 use std::alloc::Global;
 
 /// Serves the lines of a whole input, the last one without a newline among them, and says each reply. A quiet
 /// counts as the end of the input. No more than `limit` bytes are taken: where more come, just the lines that end
-/// within the limit are served.
+/// within the limit are served. Where the server closes the dialogue, no later line is served.
 pub fn serve_all<L: Link, S: Server>(
     alloc: Global,
     link: &mut L,
@@ -23,9 +23,12 @@ pub fn serve_all<L: Link, S: Server>(
         match dialogue.step(alloc, link, server, room)? {
             Step::Heard(count) => room -= count,
             Step::TooLong => return Ok(InputEnd::TooLong),
+            Step::Closed => return Ok(InputEnd::Closed),
             Step::Ended | Step::Quiet => {
-                dialogue.finish(alloc, link, server)?;
-                return Ok(InputEnd::Ended);
+                match dialogue.finish(alloc, link, server)? {
+                    Next::GoOn => return Ok(InputEnd::Ended),
+                    Next::Close => return Ok(InputEnd::Closed),
+                }
             }
         }
     }

@@ -1,24 +1,24 @@
 //! What is said for what is heard, whatever the pieces, over a server that echoes.
-use crate::{Dialogue, DialogueFault, InputEnd, Server, Step, serve_all};
+use crate::{Dialogue, DialogueFault, InputEnd, Next, Response, Server, Step, serve_all};
 use cd_io::{LinkPlan, MemLink};
 use cd_sock::Line;
 use cd_value::{Memory, Text};
 use std::alloc::Global;
 use std::test::Fail;
 
-/// Replies with the line, with `long` to one that is too long, and with nothing to an empty one. It serves so many
-/// lines, and then gives up.
+/// Replies with the line, with `long` to one that is too long, and with nothing to an empty one, and closes the
+/// dialogue at `bye`. It serves so many lines, and then gives up.
 #[derive(Drop)]
 struct Echo {
     lines: u64,
 }
 
 impl Server for Echo {
-    ghost serves_line = { λ line reply old new. Unit {0} };
+    ghost serves_line = { λ next line reply old new. Unit {0} };
 
-    ghost gives_up = { λ old new. Unit {0} };
+    ghost gives_up = { λ line old new. Unit {0} };
 
-    fn serve(&mut self, alloc: Global, line: &Line) -> Result<Text, Memory> {
+    fn serve(&mut self, alloc: Global, line: &Line) -> Result<Response, Memory> {
         if self.lines == 0 {
             return Err(Memory);
         }
@@ -27,12 +27,16 @@ impl Server for Echo {
             Line::Whole(bytes) => str::from_utf8(bytes).map_err(|_| Memory)?,
             Line::TooLong => "long",
         };
-        if text.is_empty() {
-            return Ok(Text::new(alloc));
-        }
         let mut reply = Text::of(alloc, text)?;
-        reply.push("\n")?;
-        Ok(reply)
+        if !text.is_empty() {
+            reply.push("\n")?;
+        }
+        let next = if text == "bye" {
+            Next::Close
+        } else {
+            Next::GoOn
+        };
+        Ok(Response { reply, next })
     }
 }
 
@@ -123,9 +127,32 @@ fn a_quiet_ends_an_input_and_no_dialogue(rt: HostRuntime) -> Result<(), Fail> {
         let was = dialogue.step(alloc, &mut link, &mut server, usize::MAX);
         assert_eq!(rt; was, Ok(step));
     }
-    assert_eq!(rt; dialogue.finish(alloc, &mut link, &mut server), Ok(()));
-    assert_eq!(rt; dialogue.finish(alloc, &mut link, &mut server), Ok(()));
+    for _ in 0..2 {
+        let next = dialogue.finish(alloc, &mut link, &mut server);
+        assert_eq!(rt; next, Ok(Next::GoOn));
+    }
     assert_eq!(rt; link.output(), Some(b"ab\ncd\ne\n".as_slice()));
+    Ok(())
+}
+
+#[test]
+fn a_server_closes_a_dialogue(rt: HostRuntime) -> Result<(), Fail> {
+    let alloc = rt.alloc();
+    for (input, said) in [
+        (b"ab\nbye\ncd\n".as_slice(), "ab\nbye\n"),
+        (b"ab\nbye".as_slice(), "ab\nbye\n"),
+    ] {
+        for piece in [1, 100] {
+            let (end, output) = served(alloc, input, pieces(alloc, piece), 100, 9)?;
+            assert_eq!(rt; end, Ok(InputEnd::Closed));
+            assert_eq!(rt; output.as_slice(), said.as_bytes());
+        }
+    }
+    let mut link = MemLink::new(alloc, b"bye\nab\n".to_vec(alloc)?, pieces(alloc, 100));
+    let mut server = Echo { lines: 9 };
+    let mut dialogue = Dialogue::new(alloc)?;
+    let step = dialogue.step(alloc, &mut link, &mut server, usize::MAX);
+    assert_eq!(rt; step, Ok(Step::Closed));
     Ok(())
 }
 

@@ -1,9 +1,9 @@
 -- A history and its events in the order in which they came: what holds of the one holds of the other.
-use Rattle.std.proofs.Common.{◌≡◌, ℕ, Bool, true, false, nat_eq, List, [], ◌∷◌, ◌++◌, refl, sym, ap, ◌∙◌}
-use Rattle.std.proofs.lemmas.List.{append-nil, reverse-append, reverse-reverse}
+use Rattle.cd_history.specs.History.{Event, History, actor_of, mine, ◌▸◌}
+use Rattle.cd_history.specs.Order.{Continues, history_of}
+use Rattle.std.proofs.Common.{Bool, List, [], ap, false, nat_eq, refl, sym, true, ℕ, ◌++◌, ◌∙◌, ◌∷◌, ◌≡◌}
 use Rattle.std.proofs.lemmas.List.Elements.{filter-append}
-use Rattle.cd_history.specs.History.{Event, History, ◌▸◌, actor_of, mine}
-use Rattle.cd_history.specs.Order.{history_of, Continues}
+use Rattle.std.proofs.lemmas.List.{append-nil, reverse-append, reverse-reverse}
 
 -- one more event
 pub history_of-one : (events : List Event) (e : Event) → history_of (events ++ e ∷ []) ≡ history_of events ▸ e

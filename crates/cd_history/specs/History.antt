@@ -1,11 +1,11 @@
 -- The history of events: the list of its entries, the newest first.
-use Rattle.std.specs.Prelude.{ℕ, ◌+◌, Bool, true, false, nat_eq, List, [], ◌∷◌, ◌++◌, Ok}
-use Rattle.std.specs.List.{filter}
-use Rattle.cd_value.specs.declared.data.ValueList.{ValueList}
-use Rattle.cd_value.specs.declared.data.Offered.{Offered}
-use Rattle.cd_value.specs.declared.data.Offered.TheVariants.{Kept, Dropped}
-use Rattle.cd_history.specs.declared.entry.Entry.{Entry}
 use Rattle.cd_history.specs.declared.entry.Entry.TheVariants as entry
+use Rattle.cd_history.specs.declared.entry.Entry.{Entry}
+use Rattle.cd_value.specs.declared.data.Offered.TheVariants.{Dropped, Kept}
+use Rattle.cd_value.specs.declared.data.Offered.{Offered}
+use Rattle.cd_value.specs.declared.data.ValueList.{ValueList}
+use Rattle.std.specs.List.{filter}
+use Rattle.std.specs.Prelude.{Bool, List, Ok, [], false, nat_eq, true, ℕ, ◌++◌, ◌+◌, ◌∷◌}
 
 -- an event of the daemon
 abbrev pub Event : Type 0

@@ -1,8 +1,8 @@
 -- Which calls were taken and answered.
-use Rattle.std.specs.Prelude.{ℕ, ◌+◌, nat_eq, if◌then◌else◌, List, [], ◌∷◌, ◌++◌, Option, None, Some}
-use Rattle.cd_registry.specs.declared.calls.Answer.{Answer}
-use Rattle.cd_history.specs.declared.entry.Entry.TheVariants as entry
 use Rattle.cd_history.specs.History.{History, ◌▸◌}
+use Rattle.cd_history.specs.declared.entry.Entry.TheVariants as entry
+use Rattle.cd_registry.specs.declared.calls.Answer.{Answer}
+use Rattle.std.specs.Prelude.{List, None, Option, Some, [], if◌then◌else◌, nat_eq, ℕ, ◌++◌, ◌+◌, ◌∷◌}
 
 -- how many calls of r were taken
 abbrev pub takes : ℕ → History → ℕ

@@ -1,6 +1,6 @@
 -- A history and its events in the order in which they came.
-use Rattle.std.specs.Prelude.{◌≡◌, List, ◌++◌, reverse}
 use Rattle.cd_history.specs.History.{Event, History}
+use Rattle.std.specs.Prelude.{List, reverse, ◌++◌, ◌≡◌}
 
 -- the history of events that stand with the oldest first; and of a history, its events so
 abbrev pub history_of : List Event → History

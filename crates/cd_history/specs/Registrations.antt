@@ -1,13 +1,13 @@
 -- Who is registered.
-use Rattle.std.specs.Prelude.{ℕ, ◌==◌, Bool, true, false, ◌||◌, not, nat_eq, if◌then◌else◌, List, [], ◌∷◌, ◌++◌, length, map, bit_and, Option, None, Some, Ok}
-use Rattle.std.specs.Str.{bytes_eq}
+use Rattle.cd_history.specs.History.{History, ◌▸◌}
+use Rattle.cd_history.specs.declared.entry.Entry.TheVariants as entry
+use Rattle.cd_history.specs.declared.entry.Joining.TheVariants.{Plug, Probe}
+use Rattle.cd_history.specs.declared.entry.Joining.{Joining}
+use Rattle.cd_registry.specs.declared.kinds.Kinds.{Kinds}
 use Rattle.std.specs.List.{filter, find}
 use Rattle.std.specs.Option.{option_map}
-use Rattle.cd_registry.specs.declared.kinds.Kinds.{Kinds}
-use Rattle.cd_history.specs.declared.entry.Entry.TheVariants as entry
-use Rattle.cd_history.specs.declared.entry.Joining.{Joining}
-use Rattle.cd_history.specs.declared.entry.Joining.TheVariants.{Plug, Probe}
-use Rattle.cd_history.specs.History.{History, ◌▸◌}
+use Rattle.std.specs.Prelude.{Bool, List, None, Ok, Option, Some, [], bit_and, false, if◌then◌else◌, length, map, nat_eq, not, true, ℕ, ◌++◌, ◌==◌, ◌||◌, ◌∷◌}
+use Rattle.std.specs.Str.{bytes_eq}
 
 -- two texts have the same bytes
 abbrev pub is_text : List ℕ → List ℕ → Bool

@@ -1,5 +1,5 @@
 //! The entries of the history.
-use cd_registry::{Answer, Call, Kinds, PlugTells, ProbeTells, Reading};
+use cd_registry::{Answer, Call, Kinds, PlugTells, ProbeTells, Reading, RetireFault};
 use cd_value::{Fates, FlushRequest, Lists, Names, Notification, Rates, Rows, Sequence, Text};
 
 /// What is registered under a name: a plug-in that is called, with its kinds and its block of the configuration, or one
@@ -30,17 +30,6 @@ pub enum RegisterFault {
     NameTaken(u64),
     /// As many registrations are live as there may be.
     TableFull,
-}
-
-/// Why the object of a registration wasn't handed out.
-#[derive(Clone, Copy, Debug, PartialEq, Eq)]
-pub enum RetireFault {
-    /// It isn't closed, or its object was handed out before.
-    NotRegistered,
-    /// The object is with this actor.
-    Out(u64),
-    /// This many calls wait for it.
-    Pending(u64),
 }
 
 /// The answer to what comes after a stop.

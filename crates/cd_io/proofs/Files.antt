@@ -60,16 +60,20 @@ opens_nothing shown path xs missed =
     let none : find (λ x. test (shown x)) xs ≡ None = find_none _ xs (place_missed _ xs missed) in
     ap (option_and_then (λ (file : FileTells). slice_get file.texts 0)) (find-map shown test xs ∙ ap (option_map shown) none)
 
+-- the first that passes is found
+pub found_at : {A : Type 0} (p : A → Bool) (xs : List A) (i : ℕ) (d : A) → position p xs ≡ Some i → find p xs ≡ Some (get_or xs i d)
+found_at p xs i d found =
+    let at = place_found p xs i found in
+    let within : position_or_len p xs < length xs = omega (arith, at.0, at.1) in
+    find_first p xs d within ∙ ap (λ (k : ℕ). Some (get_or xs k d)) at.0
+
 -- the first file that lies at a path is opened
 pub opens_first : {A : Type 0} (shown : A → FileTells) (path : List ℕ) (xs : List A) (i : ℕ) (d : A)
     → position (λ x. bytes_eq (shown x).path path) xs ≡ Some i
     → opening path (map shown xs) ≡ slice_get (shown (get_or xs i d)).texts 0
 opens_first {A} shown path xs i d found =
     let test : FileTells → Bool = λ file. bytes_eq file.path path in
-    let at = place_found (λ x. test (shown x)) xs i found in
-    let within : position_or_len (λ x. test (shown x)) xs < length xs = omega (arith, at.0, at.1) in
-    let first : find (λ x. test (shown x)) xs ≡ Some (get_or xs i d) =
-    find_first (λ x. test (shown x)) xs d within ∙ ap (λ (k : ℕ). Some (get_or xs k d)) at.0 in
+    let first : find (λ x. test (shown x)) xs ≡ Some (get_or xs i d) = found_at (λ x. test (shown x)) xs i d found in
     ap (option_and_then (λ (file : FileTells). slice_get file.texts 0)) (find-map shown test xs ∙ ap (option_map shown) first)
 
 goes_on : {A : Type 0} (shown : A → FileTells) (path : List ℕ) (xs : List A) (y d : A)

@@ -5,3 +5,4 @@ pub mod Rises
 pub mod Speaking
 pub mod Taken
 pub mod Taking
+pub mod Writing

@@ -1,5 +1,5 @@
 -- What was heard and said over calls on a link, one after another.
-use Rattle.std.proofs.Common.{◌≡◌, ℕ, ◌+◌, true, false, List, [], ◌++◌, take, drop, Option, None, Some, IfSome, Result, Ok, Err, is_err, OnErr, refl, sym, ap, ◌∙◌, subst, append-nil, arith}
+use Rattle.std.proofs.Common.{◌≡◌, ℕ, ◌+◌, ◌<◌, true, false, List, [], ◌++◌, take, drop, Option, None, Some, IfSome, Result, Ok, Err, is_err, OnErr, refl, sym, ap, ◌∙◌, subst, append-nil, arith, length, length-drop}
 use Rattle.std.proofs.Math.Seq.{take-add}
 use Rattle.std.proofs.lemmas.List.{take-append-drop}
 use Rattle.cd_io.specs.declared.traits.Failed.{Failed}
@@ -81,20 +81,21 @@ said_until text rest said failed first mid last s t = record {
 }
 
 -- the beginning of a text was said before the link failed
-pub said_in_part : (text : List ℕ) (said : ℕ) (first last : LinkTells) → SaysWhole said true text first last
+pub said_in_part : (text : List ℕ) (said : ℕ) (first last : LinkTells) → said < length text → SaysWhole said true text first last
     → SaidInPart text first last
-said_in_part text said first last s = record {
+said_in_part text said first last short s = record {
   written = take said text;
   unwritten = drop said text;
   parts = sym (take-append-drop said text);
+  some = omega (arith, short, length-drop said text);
   spoke = s.spoke;
   rose = s.faults.1;
 }
 
 pub error_in_part : {A : Type 0} (answer : Result A Failed) (text : List ℕ) (said : ℕ) (first last : LinkTells)
-    → SaysWhole said (is_err answer) text first last → OnErr answer (SaidInPart text first last)
-error_in_part (Ok x) text said first last s = tt
-error_in_part (Err failed) text said first last s = said_in_part text said first last s
+    → OnErr answer (said < length text) → SaysWhole said (is_err answer) text first last → OnErr answer (SaidInPart text first last)
+error_in_part (Ok x) text said first last short s = tt
+error_in_part (Err failed) text said first last short s = said_in_part text said first last short s
 
 -- where nothing was left, nothing is left after no byte was taken
 pub nothing_left : (before after : Option (List ℕ)) → Loses [] before after

@@ -1,5 +1,5 @@
 -- What a gathering link keeps.
-use Rattle.std.specs.Prelude.{ℕ, ◌-◌, Bool, true, false, not, ◌&&◌, nat_le, List, drop, length, Result, Ok, Err}
+use Rattle.std.specs.Prelude.{ℕ, ◌-◌, Bool, true, false, not, ◌&&◌, nat_le, List, length, Result, Ok, Err}
 use Rattle.cd_io.specs.declared.gathering.Gathering.{Gathering}
 use Rattle.cd_io.specs.declared.traits.Failed.{Failed}
 use Rattle.cd_io.specs.declared.traits.Heard.{Heard}
@@ -7,7 +7,7 @@ use Rattle.cd_io.specs.declared.traits.Heard.TheVariants.{End, Got, Quiet}
 
 -- what was said to it and not yet to the inner link
 abbrev pub kept_of : {L : Type 0} → Gathering L → List ℕ
-kept_of link = drop link.sent link.kept.items
+kept_of link = link.kept.items
 
 -- the inner link
 abbrev pub inner_of : {L : Type 0} → Gathering L → L
@@ -17,9 +17,17 @@ inner_of link = link.link
 abbrev pub is_through : {L : Type 0} → Gathering L → Bool
 is_through link = link.through
 
--- a text is kept: there is room for it
+-- how many bytes it keeps at most
+abbrev pub room_of : {L : Type 0} → Gathering L → ℕ
+room_of link = link.room
+
+-- a text is to be kept, and there is room for it behind what is kept
 abbrev pub has_room : {L : Type 0} → Gathering L → List ℕ → Bool
 has_room link text = not link.through && nat_le (length text) (link.room - length link.kept.items)
+
+-- a text is to be kept, and there is room for it once nothing else is kept
+abbrev pub fits_empty : {L : Type 0} → Gathering L → List ℕ → Bool
+fits_empty link text = not link.through && nat_le (length text) link.room
 
 -- the end or a quiet was heard
 abbrev pub has_stopped : Result Heard Failed → Bool

@@ -1,5 +1,5 @@
 -- What a link tells, and what calls on it do to that.
-use Rattle.std.specs.Prelude.{◌≡◌, ◌≤◌, ℕ, Bool, true, false, List, [], ◌++◌, take, Option, None, IfSome, Result, Ok, Err, is_err}
+use Rattle.std.specs.Prelude.{◌≡◌, ◌<◌, ◌≤◌, ℕ, Bool, true, false, List, [], ◌++◌, take, length, Option, None, IfSome, Result, Ok, Err, is_err}
 use Rattle.cd_io.specs.declared.traits.Heard.{Heard}
 use Rattle.cd_io.specs.declared.traits.Heard.TheVariants.{End, Got, Quiet}
 use Rattle.cd_io.specs.declared.traits.Failed.{Failed}
@@ -72,10 +72,11 @@ pub record SaysWhole (count : ℕ) (failed : Bool) (text : List ℕ) (before aft
   pub quiets : after.quiets ≡ before.quiets
   pub faults : Counts failed before.faults after.faults
 
--- the beginning of a text was said before the link failed
+-- the beginning of a text was said before the link failed, and not all of it
 pub record SaidInPart (text : List ℕ) (before after : LinkTells) : Type 0 where
   pub written : List ℕ
   pub unwritten : List ℕ
   pub parts : text ≡ written ++ unwritten
+  pub some : 0 < length unwritten
   pub spoke : Spoke [] written before after
   pub rose : Rose before.faults after.faults

@@ -1,5 +1,5 @@
 -- What a source in memory tells, and which calls on it fail.
-use Rattle.std.specs.Prelude.{ℕ, min, max, Bool, if◌then◌else◌, List, drop, length, Some}
+use Rattle.std.specs.Prelude.{◌≡◌, ℕ, ◌-◌, ◌^◌, min, max, Bool, if◌then◌else◌, List, [], drop, length, Some}
 use Rattle.cd_io.specs.declared.memory.source.MemSource.{MemSource}
 use Rattle.cd_io.specs.declared.memory.source.SourcePlan.{SourcePlan}
 use Rattle.cd_io.specs.MemLink.{is_among}
@@ -16,6 +16,23 @@ told_first bytes = record { left = Some bytes; faults = 0 }
 -- which calls fail, and how much one gives
 abbrev pub plan_of : MemSource → SourcePlan
 plan_of source = source.plan
+
+-- what a plan says: the calls that fail, and how many bytes one gives at most
+pub record PlanTells : Type 0 where
+  pub failing : List ℕ
+  pub limit : ℕ
+
+abbrev pub plan_tells : SourcePlan → PlanTells
+plan_tells plan = record { failing = plan.failing_reads.items; limit = plan.piece_limit }
+
+-- no call fails, and each gives what the buffer holds
+abbrev pub no_plan : PlanTells
+no_plan = record { failing = []; limit = 2 ^ 64 - 1 }
+
+-- a source that was not read yet, and goes by this plan
+pub record BeginsBy (plan : PlanTells) (source : MemSource) : Type 0 where
+  pub goes_by : plan_tells (plan_of source) ≡ plan
+  pub unread : source.reads ≡ 0
 
 -- the number of the next call
 abbrev pub reads_of : MemSource → ℕ

@@ -33,8 +33,8 @@ pub record IsWhole (limit : ℕ) (bytes : List ℕ) (before after : SourceTells)
   pub ended : IsAtEnd after
 
 -- the reading of a whole source failed at the source
-abbrev pub is_failed : {A : Type 0} → Result A ReadAllFault → Bool
-is_failed (Ok bytes) = false
-is_failed (Err fault.Failed) = true
-is_failed (Err fault.TooLong) = false
-is_failed (Err fault.Memory) = false
+abbrev pub is_reading_fault : {A : Type 0} → Result A ReadAllFault → Bool
+is_reading_fault (Ok bytes) = false
+is_reading_fault (Err fault.Failed) = true
+is_reading_fault (Err fault.TooLong) = false
+is_reading_fault (Err fault.Memory) = false

@@ -1,5 +1,5 @@
 -- What a world tells of its files, and what calls on it do to that.
-use Rattle.std.specs.Prelude.{◌≡◌, ℕ, Bool, true, false, nat_lt, if◌then◌else◌, List, [], ◌∷◌, drop, length, Option, Some, IfOk, Result, Ok, Err}
+use Rattle.std.specs.Prelude.{◌≡◌, ℕ, Bool, true, false, nat_lt, if◌then◌else◌, List, [], ◌∷◌, drop, length, Option, Some, IfOk, IfSome, IsSome, Result, Ok, Err}
 use Rattle.std.specs.List.{find, slice_get}
 use Rattle.std.specs.Option.{option_map, option_and_then}
 use Rattle.std.specs.Str.{bytes_eq}
@@ -42,20 +42,21 @@ abbrev pub files_after : {S : Type 0} → Result S OutFault → List ℕ → Lis
 files_after (Ok source) path files = after_opening path files
 files_after (Err fault) path files = files
 
--- the call failed
-abbrev pub is_failed : {S : Type 0} → Result S OutFault → Bool
-is_failed (Ok source) = false
-is_failed (Err fault.Failed) = true
-is_failed (Err fault.Memory) = false
+-- a call of `file` failed
+abbrev pub is_opening_fault : {S : Type 0} → Result S OutFault → Bool
+is_opening_fault (Ok source) = false
+is_opening_fault (Err fault.Failed) = true
+is_opening_fault (Err fault.Memory) = false
 
 -- What a call of `file` does that had this answer: the source has the text of the path's next opening left, where the
--- world tells it, and no fault.
+-- world tells it, and no fault. Memory is lacking only where a text is there.
 pub record Opens {S : Type 0} (tells : S → SourceTells) (path : List ℕ) (answer : Result S OutFault)
     (before after : WorldTells) : Type 0 where
   pub found : IfOk answer (λ source. option_map Some (tells source).left ≡ option_map (opening path) before.files)
   pub begins : IfOk answer (λ source. (tells source).faults ≡ 0)
+  pub lacking : answer ≡ Err fault.Memory → IfSome before.files (λ files. IsSome (opening path files))
   pub files : after.files ≡ option_map (files_after answer path) before.files
-  pub faults : Counts (is_failed answer) before.faults after.faults
+  pub faults : Counts (is_opening_fault answer) before.faults after.faults
   pub reading_faults : after.reading_faults ≡ before.reading_faults
 
 -- what a call of `shut` does that takes back a source which tells this

@@ -1,5 +1,5 @@
 //! Replies gathered, so that many go out in one piece.
-ghost use Rattle.std.specs.Prelude.{◌≡◌, ◌≤◌, ◌<◌, ◌||◌, ◌++◌, true, ℕ, [], drop, length, vec_capacity, Ok, IfOk, OnOk, is_err};
+ghost use Rattle.std.specs.Prelude.{◌≡◌, ◌≤◌, ◌<◌, ◌||◌, ◌⊎◌, ◌++◌, true, false, ℕ, [], drop, length, vec_capacity, Ok, IfOk, OnOk, is_err};
 ghost use Rattle.cd_io.specs.declared.gathering.TheConstants.{GATHER_LIMIT};
 ghost use Rattle.cd_io.specs.Gathered.{Finishes, Flushes, gathered};
 ghost use Rattle.cd_io.specs.Link.{heard_count, Hears, Says};
@@ -13,22 +13,21 @@ pub const GATHER_LIMIT: usize = 65_536;
 /// A link over another that keeps what is said, and says it before it hears again, or where its room is full. From the
 /// first end or quiet on it keeps nothing. Where memory for its room is lacking, it keeps nothing at all.
 ///
-/// What it says late may fail late: a call of `hear` fails where it can't say what is kept.
+/// What it says late may fail late: a call of `hear` fails where it can't say what is kept. Of that just the bytes that the
+/// inner link didn't take are kept on.
 #[derive(Drop)]
 pub struct Gathering<L> {
     link: L,
     kept: Vec<u8>,
-    sent: usize,
     room: usize,
     through: bool,
-    ghost within: { sent ≤ length kept.items },
     ghost few: { length kept.items ≤ room },
     ghost small: { room ≤ GATHER_LIMIT },
     ghost reserved: { room ≤ vec_capacity kept },
 }
 
 impl<L> Gathering<L> {
-    ghost use Rattle.cd_io.specs.Gathering.{has_room, has_stopped, inner_of, is_through, kept_of};
+    ghost use Rattle.cd_io.specs.Gathering.{has_room, has_stopped, inner_of, is_through, kept_of, room_of};
 
     /// Whether a text is to be kept, and there is room for it.
     fn fits(&self, text: &[u8]) -> bool
@@ -43,6 +42,7 @@ impl<L> Gathering<L> {
         ensures kept { kept_of self.new ≡ kept_of self.old ++ text.now }
         ensures inner { inner_of self.new ≡ inner_of self.old }
         ensures through { is_through self.new ≡ is_through self.old }
+        ensures room { room_of self.new ≡ room_of self.old }
     {
         let _ = self.kept.extend_from_slice(text);
     }
@@ -53,12 +53,11 @@ impl<L> Gathering<L> {
         ensures kept { kept_of self.new ≡ drop count (kept_of self.old) }
         ensures inner { inner_of self.new ≡ inner_of self.old }
         ensures through { is_through self.new ≡ is_through self.old }
+        ensures room { room_of self.new ≡ room_of self.old }
     {
-        self.sent += count;
-        if self.sent == self.kept.len() {
-            self.kept.clear();
-            self.sent = 0;
-        }
+        let left = self.kept.len() - count;
+        self.kept.copy_within(count.., 0);
+        self.kept.truncate(left);
     }
 
     /// Notes what was heard: after the end or a quiet nothing is kept any more.
@@ -66,6 +65,7 @@ impl<L> Gathering<L> {
         ensures kept { kept_of self.new ≡ kept_of self.old }
         ensures inner { inner_of self.new ≡ inner_of self.old }
         ensures through { is_through self.new ≡ (is_through self.old || has_stopped heard) }
+        ensures room { room_of self.new ≡ room_of self.old }
     {
         if matches!(heard, Ok(Heard::End | Heard::Quiet)) {
             self.through = true;
@@ -74,13 +74,16 @@ impl<L> Gathering<L> {
 }
 
 impl<L: Link> Gathering<L> {
-    ghost use Rattle.cd_io.specs.Gathering.{is_through, kept_of};
+    ghost use Rattle.cd_io.specs.Gathering.{inner_of, is_through, kept_of, room_of};
 
-    /// A gathering link over another, with nothing kept.
+    /// A gathering link over another, with nothing kept: its room is `GATHER_LIMIT`, or none where memory was lacking.
     pub fn new(alloc: Global, link: L) -> Self
         ensures tells { ⟦<Gathering<L> as Link>⟧.link_tells result
             ≡ gathered [] (L.link_tells link) }
+        ensures inner { inner_of result ≡ link }
         ensures kept { kept_of result ≡ [] }
+        ensures through { is_through result ≡ false }
+        ensures room { (room_of result ≡ GATHER_LIMIT) ⊎ (room_of result ≡ 0) }
     {
         let (kept, room) = match Vec::with_capacity(alloc, GATHER_LIMIT) {
             Ok(kept) => (kept, GATHER_LIMIT),
@@ -89,7 +92,6 @@ impl<L: Link> Gathering<L> {
         Gathering {
             link,
             kept,
-            sent: 0,
             room,
             through: false,
         }
@@ -99,13 +101,14 @@ impl<L: Link> Gathering<L> {
     pub fn flush(&mut self) -> Result<(), Failed>
         ensures kept { OnOk result (kept_of self.new ≡ []) }
         ensures through { is_through self.new ≡ is_through self.old }
+        ensures room { room_of self.new ≡ room_of self.old }
         ensures flushes { Flushes (is_err result)
             (⟦<Gathering<L> as Link>⟧.link_tells self.old)
             (⟦<Gathering<L> as Link>⟧.link_tells self.new) }
     {
-        let (count, said) = self.link.say_whole(&self.kept[self.sent..]);
+        let (count, answer) = self.link.say_whole(self.kept.as_slice());
         self.forget(count);
-        said
+        answer
     }
 
     /// Says all that is kept to the inner link, and gives it back.
@@ -123,7 +126,7 @@ impl<L: Link> Gathering<L> {
 
 // The clauses of the trait, and what is kept.
 impl<L: Link> Link for Gathering<L> {
-    ghost use Rattle.cd_io.specs.Gathering.{has_room, has_stopped, inner_of, is_through, kept_of};
+    ghost use Rattle.cd_io.specs.Gathering.{fits_empty, has_room, has_stopped, inner_of, is_through, kept_of, room_of};
 
     ghost link_tells = { λ g. gathered (kept_of g) (L.link_tells g.link) };
 
@@ -136,9 +139,9 @@ impl<L: Link> Link for Gathering<L> {
             (gathered (kept_of self.new) (L.link_tells self.new.link)) }
         ensures kept { OnOk result (kept_of self.new ≡ []) }
         ensures through { is_through self.new ≡ (is_through self.old || has_stopped result) }
+        ensures room { room_of self.new ≡ room_of self.old }
     {
-        let kept = &self.kept[self.sent..];
-        let (count, said) = self.link.say_whole(kept);
+        let (count, said) = self.link.say_whole(self.kept.as_slice());
         self.forget(count);
         said?;
         let heard = self.link.hear(buf);
@@ -153,22 +156,32 @@ impl<L: Link> Link for Gathering<L> {
             (gathered (kept_of self.old) (L.link_tells self.old.link))
             (gathered (kept_of self.new) (L.link_tells self.new.link)) }
         ensures kept { OnOk result (is_through self.old ≡ true → kept_of self.new ≡ []) }
+
+        // Where there is room the whole text is kept, and the inner link isn't called.
+        ensures whole { has_room self.old text.now ≡ true → result ≡ Ok (length text.now) }
+        ensures keeps { has_room self.old text.now ≡ true
+            → kept_of self.new ≡ kept_of self.old ++ text.now }
         ensures gathers { has_room self.old text.now ≡ true
             → inner_of self.new ≡ inner_of self.old }
+
+        // Where there is room once all that was kept is said, the whole text is kept then.
+        ensures whole_later { IfOk result (λ n.
+            fits_empty self.old text.now ≡ true → n ≡ length text.now) }
         ensures few { length (kept_of self.new) ≤ GATHER_LIMIT }
         ensures through { is_through self.new ≡ is_through self.old }
+        ensures room { room_of self.new ≡ room_of self.old }
     {
         if self.fits(text) {
             self.keep(text);
             return Ok(text.len());
         }
-        let (count, flushed) = self.link.say_whole(&self.kept[self.sent..]);
+        let (count, flushed) = self.link.say_whole(self.kept.as_slice());
         self.forget(count);
         flushed?;
-        if self.fits(text) {
-            self.keep(text);
-            return Ok(text.len());
+        if !self.fits(text) {
+            return self.link.say(text);
         }
-        self.link.say(text)
+        self.keep(text);
+        Ok(text.len())
     }
 }

@@ -1,10 +1,9 @@
-//! What the daemon asks of the outside: links to peers, datagrams, files, clocks, dice, and the world that hands them out.
+//! What the daemon asks of the outside: links, datagrams, files, clocks, dice, and the world that hands these out.
 //!
-//! It stands on std alone and takes no handle. Each object is a trait with ghost members for what it tells, and calls do
-//! to that what `specs/Link.antt`, `Packets.antt`, `Source.antt`, `World.antt` and `Told.antt` say; `Causes.antt` says when
-//! they may fail. The invariant of all: what was told goes on just as the calls say, or isn't told any more, and a count
-//! rises only in a call that answers so. The objects in memory tell all; the adapters over real streams, files and the
-//! real clock tell only their counts. A change begins in `traits.rt`, `packets.rt`, `source.rt` or `world.rt`.
+//! - Stands on std alone, and takes no handle.
+//! - Read first `specs/Link.antt`, then `Source.antt`, `World.antt`, `Packets.antt`; `Causes.antt` says when a call may fail.
+//! - What was told goes on as the calls say, or isn't told any more; a count rises just in a call that answers so.
+//! - A change begins with the trait, in `traits.rt`, `packets.rt`, `source.rt` or `world.rt`.
 #![tactic(auto)]
 
 mod adapters;

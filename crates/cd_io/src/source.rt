@@ -1,7 +1,7 @@
 //! Texts that are read from their beginning to their end.
 ghost use Rattle.std.specs.Prelude.{◌≡◌, ◌≤◌, ◌<◌, ℕ, List, length, Err, IfOk, IfSome};
 ghost use Rattle.cd_io.specs.Causes.{Counts};
-ghost use Rattle.cd_io.specs.Source.{is_failed, IsWhole, read_count, Reads, SourceTells};
+ghost use Rattle.cd_io.specs.Source.{is_reading_fault, IsWhole, read_count, Reads, SourceTells};
 ghost use Rattle.cd_io.specs.Told.{Takes};
 
 use crate::Failed;
@@ -65,7 +65,7 @@ pub fn read_all<S: Source>(
         → IfSome (S.source_tells source.old).left (λ text. limit < length text) }
     ensures takes { (bytes : List ℕ)
         × Takes bytes (S.source_tells source.old).left (S.source_tells source.new).left }
-    ensures faults { Counts (is_failed result)
+    ensures faults { Counts (is_reading_fault result)
         (S.source_tells source.old).faults (S.source_tells source.new).faults }
 {
     let mut bytes = Vec::new(alloc);

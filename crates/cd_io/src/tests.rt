@@ -31,31 +31,23 @@ impl Write for Broken {
     }
 }
 
-/// A writer that takes a byte at a time, and nothing more before it was flushed.
+/// A writer that takes a byte at a time, and whose flush fails.
 #[derive(Drop)]
 struct ByteByByte<'a> {
     taken: &'a mut Vec<u8>,
-    pending: bool,
 }
 
 impl Write for ByteByByte<'_> {
     fn write(&mut self, buf: &[u8]) -> io::Result<usize> {
-        if self.pending {
-            return Ok(0);
-        }
         let first = &buf[..buf.len().min(1)];
         match self.taken.extend_from_slice(first) {
-            Ok(()) => {
-                self.pending = true;
-                Ok(first.len())
-            }
+            Ok(()) => Ok(first.len()),
             Err(_) => Err(io::Error::from(ErrorKind::OutOfMemory)),
         }
     }
 
     fn flush(&mut self) -> io::Result<()> {
-        self.pending = false;
-        Ok(())
+        Err(io::Error::from(ErrorKind::BrokenPipe))
     }
 }
 
@@ -172,10 +164,7 @@ fn streams_wait(rt: HostRuntime) -> Result<(), Fail> {
         let writer = Late {
             errors: 2,
             kind,
-            stream: ByteByByte {
-                taken: &mut taken,
-                pending: false,
-            },
+            stream: ByteByByte { taken: &mut taken },
         };
         let mut link = Streams::new(rt, reader, writer);
         let mut buf = *b"....";
@@ -195,14 +184,17 @@ fn replies_are_gathered(rt: HostRuntime) -> Result<(), Fail> {
     plan.failing_says.push(0)?;
     let mut link = Gathering::new(alloc, MemLink::new(alloc, b"x".to_vec(alloc)?, plan));
     let mut buf = *b".";
-    assert_eq!(rt; link.say(b"1"), Ok(1));
-    assert_eq!(rt; link.say(b"2"), Ok(1));
+    assert_eq!(rt; link.say(b"0 Success\n"), Ok(10));
+    assert_eq!(rt; link.say(b"1 Value found\n"), Ok(14));
     assert_eq!(rt; link.hear(&mut buf), Err(Failed));
     assert_eq!(rt; link.hear(&mut buf), Ok(Heard::Got(1)));
     assert_eq!(rt; link.hear(&mut buf), Ok(Heard::End));
     let (mut link, finished) = link.finish();
     assert_eq!(rt; finished, Ok(()));
-    assert_eq!(rt; link.output(), Some(b"12".as_slice()));
+    assert_eq!(rt;
+        link.output(),
+        Some(b"0 Success\n1 Value found\n".as_slice())
+    );
     assert_eq!(rt; link.say(b"3"), Ok(1));
 
     // What is said after the end isn't kept, and neither is what has no room.
@@ -224,12 +216,9 @@ fn replies_are_gathered(rt: HostRuntime) -> Result<(), Fail> {
 }
 
 #[test]
-fn short_writes_lose_nothing(rt: HostRuntime) -> Result<(), Fail> {
+fn short_writes_lose_and_double_nothing(rt: HostRuntime) -> Result<(), Fail> {
     let mut taken = Vec::new(rt.alloc());
-    let writer = ByteByByte {
-        taken: &mut taken,
-        pending: false,
-    };
+    let writer = ByteByByte { taken: &mut taken };
     let mut link = Streams::new(rt, b"".as_slice(), writer);
     assert_eq!(rt; link.say(b"abc"), Ok(1));
     assert_eq!(rt; say_all(&mut link, b"0 Success\n"), Ok(()));

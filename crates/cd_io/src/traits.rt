@@ -1,5 +1,5 @@
 //! What the daemon asks of the outside.
-ghost use Rattle.std.specs.Prelude.{◌≡◌, ◌<◌, ◌≤◌, true, ℕ, length, Option, IfSome, IfOk, Ok, OnOk, is_err};
+ghost use Rattle.std.specs.Prelude.{◌≡◌, ◌<◌, ◌≤◌, true, ℕ, length, Option, IfSome, IfOk, Ok, OnErr, OnOk, is_err};
 ghost use Rattle.std.specs.Option.{option_map};
 ghost use Rattle.cd_io.specs.Causes.{Counts};
 ghost use Rattle.cd_io.specs.Link.{heard_count, Hears, LinkTells, Says, SaysWhole};
@@ -51,10 +51,11 @@ pub trait Link: Send + Drop {
         ensures says { Says result text.now (link_tells self.old) (link_tells self.new) };
 
     /// Says a text to the peer: it is offered in one piece, and again from the first byte that wasn't taken. Answers how
-    /// many of its bytes were said, which are all where no call failed.
+    /// many of its bytes were said: all where no call failed, and fewer where one did.
     fn say_whole(&mut self, text: &[u8]) -> (usize, Result<(), Failed>)
         ensures bound { result.0 ≤ length text.now }
         ensures whole { OnOk result.1 (result.0 ≡ length text.now) }
+        ensures short { OnErr result.1 (result.0 < length text.now) }
         ensures says { SaysWhole result.0 (is_err result.1) text.now
             (link_tells self.old) (link_tells self.new) }
     {

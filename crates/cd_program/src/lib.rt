@@ -1,7 +1,8 @@
-//! The program `collectd`, as in collectd(1): what it hands to the run, what it writes on standard error, and its status.
+//! The program `collectd`, as in collectd(1): what it hands to the run, what it writes on standard error, and its
+//! status.
 //!
 //! - Stands on `cd_serve`, `cd_registry` and `cd_io`, and takes no handle.
-//! - Read first `specs/Program.antt`.
+//! - Read first `specs/Gathered.antt`, then `Program.antt`.
 //! - Its one writer, `w`, keeps what it gets.
 //! - Programs with stored runs are `collectd_main`, `collectd_line` and `collectd_usage`; each only calls `start`.
 #![tactic(auto)]
@@ -10,4 +11,7 @@ mod machine;
 mod outcome;
 
 pub use machine::start;
-pub use outcome::{Outcome, run_words};
+pub use outcome::{Outcome, run_gathered};
+
+#[cfg(test)]
+mod tests;

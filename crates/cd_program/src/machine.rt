@@ -1,7 +1,6 @@
 //! The program over what the machine gives it.
-use crate::outcome::end_after;
-use crate::{Outcome, run_words};
-use cd_io::{Gathering, RealWorld, Streams};
+use crate::{Outcome, run_gathered};
+use cd_io::{RealWorld, Streams};
 use cd_registry::Telling;
 use cd_serve::End;
 use std::env;
@@ -35,11 +34,10 @@ fn serve_here(rt: &HostRuntime) -> Outcome {
         return Outcome::of(alloc, End::Memory);
     };
     let mut world = RealWorld::new(*rt);
-    let mut input = Gathering::new(alloc, Streams::new(*rt, rt.stdin(), rt.stdout()));
-    let ran = run_words(alloc, words.as_slice(), &mut world, &mut input, object);
-    let (_, finished) = input.finish();
+    let streams = Streams::new(*rt, rt.stdin(), rt.stdout());
+    let (ran, _) = run_gathered(alloc, words.as_slice(), &mut world, streams, object);
     match ran {
-        Some(ran) => Outcome::of(alloc, end_after(ran.end, finished)),
+        Some(ran) => Outcome::of(alloc, ran.end),
         None => Outcome::of(alloc, End::Memory),
     }
 }
@@ -47,8 +45,6 @@ fn serve_here(rt: &HostRuntime) -> Outcome {
 /// Serves, writes what is to be said on standard error, and gives the exit status.
 pub fn start(rt: &HostRuntime) -> ExitCode {
     let outcome = serve_here(rt);
-    if let Some(message) = &outcome.message {
-        let _ = rt.eprint(message.as_str());
-    }
+    let _ = outcome.tell(&mut rt.stderr());
     ExitCode::from(outcome.status)
 }

@@ -1,16 +1,19 @@
 //! What the program does over a world and a link.
-ghost use Rattle.std.specs.Prelude.{◌≡◌, ◌⊎◌, true, false, IfNone, IfOk, IfSome, OnErr, OnOk, map, string_bytes};
 ghost use Rattle.cd_io.specs.Causes.{Rose};
-ghost use Rattle.cd_serve.specs.Ends.{message_of, status_of};
-ghost use Rattle.cd_serve.specs.Promises.{IsWithin, Promises, is_lines};
-ghost use Rattle.cd_serve.specs.Shelf.{on_shelf};
+ghost use Rattle.cd_program.specs.Gathered.{PromisesGathered, PromisesLink, end_after};
 ghost use Rattle.cd_program.specs.Program.{writer};
+ghost use Rattle.cd_serve.specs.Ends.{message_of, status_of};
+ghost use Rattle.cd_serve.specs.Promises.{IsWithin, is_lines};
+ghost use Rattle.cd_serve.specs.Shelf.{on_shelf};
+ghost use Rattle.std.specs.Io.KnownBytes.{Appends};
+ghost use Rattle.std.specs.Prelude.{IfNone, IfOk, IfSome, OnErr, OnOk, false, is_err, map, string_bytes, true, ◌≡◌, ◌⊎◌};
 
-use cd_io::{Failed, Link, World};
+use cd_io::{Failed, Gathering, Link, World};
 use cd_registry::{Kinds, Plug};
-use cd_serve::{End, Ran, Shelved, run, status, text_of};
+use cd_serve::{End, Ran, RanOf, Shelved, run, status, text_of};
 use cd_value::{Memory, Text};
 use std::alloc::Global;
+use std::io::{self, Write};
 use std::marker::Send;
 
 /// How the program ends: its exit status, and what it writes on standard error, which is none where memory was lacking
@@ -39,16 +42,29 @@ impl Outcome {
             end,
         }
     }
+
+    /// Writes the message, where there is one. The program hands in standard error.
+    pub fn tell<W: Write>(&self, errors: &mut W) -> io::Result<()>
+        ensures message { OnOk result (IfSome self.now.message
+            (Appends (W.contents errors.old) (W.contents errors.new))) }
+        ensures none { IfNone self.now.message
+            (W.contents errors.new ≡ W.contents errors.old) }
+    {
+        match &self.message {
+            Some(message) => errors.write_all(message.as_str().as_bytes()),
+            None => Ok(()),
+        }
+    }
 }
 
 /// The end of a run after which the last replies were said, or couldn't be.
-pub(crate) fn end_after(end: End, finished: Result<(), Failed>) -> End
-    ensures ok { OnOk finished (result ≡ end) }
-    ensures err { OnErr finished (result ≡ End.LinkFault) }
+fn end_after(end: End, finished: Result<(), Failed>) -> End
+    ensures { result ≡ end_after (is_err finished) end }
 {
-    match finished {
-        Ok(()) => end,
-        Err(Failed) => End::LinkFault,
+    match (finished, end) {
+        (Ok(()), end) => end,
+        (Err(Failed), End::Usage) => End::Usage,
+        (Err(Failed), _) => End::LinkFault,
     }
 }
 
@@ -68,34 +84,57 @@ fn shelf_of(alloc: Global, object: Box<dyn Plug + Send>) -> Result<Vec<Shelved>,
     Ok(plugs)
 }
 
-/// Runs the daemon by these words with one writer, `w`, called with value lists. It answers nothing where memory was
-/// lacking for the shelf; then nothing was done.
-pub fn run_words<W: World, L: Link>(
+/// Runs the daemon by these words with one writer, `w`, called with value lists, over a link behind one that gathers
+/// replies. The last replies are said at the end; where they can't be, the end is a fault of the link. The link comes back.
+/// It answers no run where memory was lacking for the shelf; then nothing was done.
+pub fn run_gathered<W: World, L: Link>(
     alloc: Global,
     words: &[String],
     world: &mut W,
-    input: &mut L,
+    link: L,
     object: Box<dyn Plug + Send>,
-) -> Option<Ran>
-    ensures promises { IfSome result (λ ran. Promises
+) -> (Option<Ran>, L)
+    ensures promises { IfSome result.0 (λ ran. PromisesGathered
         (writer (⟦<Box<dyn Plug + Send> as Plug>⟧.plug_tells object))
         (on_shelf ⟦<Box<dyn Plug + Send> as Plug>⟧.plug_tells ran.plugs.items)
         ran.given
         (record { clock = W.world_clock_pair world.old; dice = W.world_dice_pair world.old })
-        (L.link_tells input.old) (L.link_tells input.new)
+        (L.link_tells link) (L.link_tells result.1)
         ran.end) }
-    ensures usage { IfSome result (λ ran.
+    ensures link { IfSome result.0 (λ ran. PromisesLink
+        (writer (⟦<Box<dyn Plug + Send> as Plug>⟧.plug_tells object))
+        (on_shelf ⟦<Box<dyn Plug + Send> as Plug>⟧.plug_tells ran.plugs.items)
+        ran.given
+        (record { clock = W.world_clock_pair world.old; dice = W.world_dice_pair world.old })
+        (L.link_tells link) (L.link_tells result.1)
+        ran.end) }
+    ensures usage { IfSome result.0 (λ ran.
         ran.end ≡ End.Usage → is_lines (map string_bytes words.now) ≡ false) }
-    ensures serves { IfSome result (λ ran.
+    ensures serves { IfSome result.0 (λ ran.
         is_lines (map string_bytes words.now) ≡ false → ran.end ≡ End.Usage) }
-    ensures complete { IfSome result (λ ran. is_lines (map string_bytes words.now) ≡ true
-        → (Rose (L.link_tells input.old).faults (L.link_tells input.new).faults → ⊥)
-        → IsWithin (L.link_tells input.old) (L.link_tells input.new)
+    ensures complete { IfSome result.0 (λ ran. is_lines (map string_bytes words.now) ≡ true
+        → (Rose (L.link_tells link).faults (L.link_tells result.1).faults → ⊥)
+        → IsWithin (L.link_tells link) (L.link_tells result.1)
         → (ran.end ≡ End.Done) ⊎ (ran.end ≡ End.Memory)) }
-    ensures none { IfNone result (L.link_tells input.new ≡ L.link_tells input.old) }
+    ensures none { IfNone result.0 (result.1 ≡ link) }
 {
-    match shelf_of(alloc, object) {
-        Ok(plugs) => Some(run(alloc, words, world, input, plugs, Vec::new(alloc))),
-        Err(_) => None,
-    }
+    let Ok(plugs) = shelf_of(alloc, object) else {
+        return (None, link);
+    };
+    let mut gathering = Gathering::new(alloc, link);
+    let ran = run(alloc, words, world, &mut gathering, plugs, Vec::new(alloc));
+    let (link, finished) = gathering.finish();
+    let RanOf {
+        end,
+        given,
+        plugs,
+        probes,
+    } = ran;
+    let ran = RanOf {
+        end: end_after(end, finished),
+        given,
+        plugs,
+        probes,
+    };
+    (Some(ran), link)
 }

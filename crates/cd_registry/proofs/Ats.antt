@@ -1,8 +1,9 @@
 -- Facts of the row of a number, for callers.
-use Rattle.std.proofs.Common.{◌≡◌, ◌<◌, ℕ, suc, zero, List, [], ◌∷◌, ◌++◌, Bool, true, false, ◌&&◌, length, get_or, Some, refl, ap, ◌∙◌, arith}
-use Rattle.std.specs.List.{position}
+use Rattle.std.proofs.Common.{◌≡◌, ◌<◌, ℕ, suc, zero, ◌+◌, List, [], ◌∷◌, ◌++◌, Bool, true, false, ◌&&◌, cond, length, get_or, slice_get, IfSome, IsSomeAnd, Option, None, Some, refl, ap, ◌∙◌, arith}
+use Rattle.std.specs.List.{All, filter, position}
 use Rattle.std.proofs.lemmas.List.Quantifiers.{position-Some}
-use Rattle.cd_registry.specs.Rows.{Row, At, IsLive, IsPlugOut, IsReady, after_take, has_kinds, is_live_as, live_number_with, with_row}
+use Rattle.cd_registry.specs.Rows.{Row, At, IsLive, IsPlugOut, IsReady, after_take, has_kinds, is_live_as, listening, live_number_with, with_row}
+use Rattle.cd_registry.proofs.Places.{numbers_from, numbers_from-cons}
 
 -- a fact of a row leads to another
 pub at_map : (rows : List Row) (i : ℕ) (P Q : Row → Type 0) → ((row : Row) → P row → Q row) → At rows i P → At rows i Q
@@ -61,3 +62,43 @@ pub at_old : (rows more : List Row) (i : ℕ) (P : Row → Type 0) → At rows i
 at_old [] more i P at = absurd at
 at_old (row ∷ rows) more zero P at = at
 at_old (row ∷ rows) more (suc i) P at = at_old rows more i P at
+
+-- what holds of the numbers of the elements that pass holds of each number that is listed
+listed_all : {A : Type 0} (p : A → Bool) (Q : ℕ → Type 0) (n : ℕ) (xs : List A)
+    → ((i : ℕ) → IsSomeAnd (slice_get xs i) (λ x. p x ≡ true) → Q (n + i)) → All Q (numbers_from n p xs)
+listed_all p Q n [] holds = λ k d within. absurd (omega (arith, within))
+listed_all p Q n (x ∷ xs) holds =
+    let rest : All Q (numbers_from (n + 1) p xs) = listed_all p Q (n + 1) xs (λ i at. next i (holds (suc i) at)) in
+    rw (numbers_from-cons n p x xs) (by (p x) (numbers_from (n + 1) p xs) (λ e. first (holds zero e)) rest)
+  where
+    next : (i : ℕ) → Q (n + suc i) → Q ((n + 1) + i)
+    next i fact = let e : (n + 1) + i ≡ n + suc i = omega arith in rw e fact
+
+    first : Q (n + 0) → Q n
+    first fact = let e : n ≡ n + 0 = omega arith in rw e fact
+
+    in_front : (m : ℕ) (others : List ℕ) → Q m → All Q others → All Q (m ∷ others)
+    in_front m others one rest zero d within = one
+    in_front m others one rest (suc k) d within = rest k d (omega (arith, within))
+
+    by : (passes : Bool) (others : List ℕ) → (passes ≡ true → Q n) → All Q others → All Q (cond passes (n ∷ []) [] ++ others)
+    by true others one rest = in_front n others (one refl) rest
+    by false others one rest = rest
+
+-- those that listen are live
+pub listening_live : (kinds : ℕ) (rows : List Row) → All (λ reg. At rows reg IsLive) (listening kinds rows)
+listening_live kinds rows =
+    listed_all (λ row. row.live && has_kinds kinds row) (λ reg. At rows reg IsLive) 0 rows
+    (λ i at. from_zero i (at_map rows i (λ row. row.live && has_kinds kinds row ≡ true) IsLive (λ row passes. both row.live _ passes) at))
+  where
+    from_zero : (i : ℕ) → At rows i IsLive → At rows (0 + i) IsLive
+    from_zero i at = let e : 0 + i ≡ i = omega arith in rw e at
+
+    both : (a b : Bool) → a && b ≡ true → a ≡ true
+    both true b e = refl
+    both false b e = e
+
+-- what holds of whatever number it is
+pub some_is : (o : Option ℕ) (Q : ℕ → Type 0) → ((n : ℕ) → o ≡ Some n → Q n) → IfSome o Q
+some_is None Q holds = tt
+some_is (Some n) Q holds = holds n refl

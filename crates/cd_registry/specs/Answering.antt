@@ -1,8 +1,8 @@
--- The answers that the plug-in that keeps its calls has still to give.
-use Rattle.std.specs.Prelude.{List, drop}
+-- The answers of a plug-in that gives those of its list.
+use Rattle.std.specs.Prelude.{ℕ, List, slice_get, unwrap_or}
 use Rattle.cd_registry.specs.declared.calls.Answer.{Answer}
-use Rattle.cd_registry.specs.declared.telling.Telling.{Telling}
+use Rattle.cd_registry.specs.declared.calls.Answer.TheVariants.{Done}
 
--- those of its list that it hasn't given, in order
-abbrev pub answers_left : Telling → List Answer
-answers_left plug = drop plug.entered plug.answers.items
+-- the answer of the list at a place, and Done behind its end
+abbrev pub answer_at : List Answer → ℕ → Answer
+answer_at answers place = unwrap_or (slice_get answers place) Done

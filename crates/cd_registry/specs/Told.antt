@@ -31,13 +31,14 @@ readings_after now reading.Memory told = None
 readings_after now r None = None
 readings_after now r (Some told) = Some (told ++ record { moment = now; reading = r } ∷ [])
 
--- the count of failed readings rose where the reading failed, and never falls
-abbrev pub Counts : Reading → ℕ → ℕ → Type 0
-Counts reading.Failed old new = min (old + 1) (2 ^ 64 - 1) ≤ new
-Counts r old new = old ≤ new
+-- the count of failed readings never falls; it rose where the reading failed, and stands where it didn't
+abbrev pub CountsFailures : Reading → ℕ → ℕ → Type 0
+CountsFailures reading.Failed old new = (old ≤ new) × (min (old + 1) (2 ^ 64 - 1) ≤ new)
+CountsFailures (reading.Lists lists) old new = new ≡ old
+CountsFailures reading.Memory old new = new ≡ old
 
 -- a reader was read at a moment and gave a reading
 pub record Reads (now : ℕ) (r : Reading) (old new : ProbeTells) : Type 0 where
   pub mark : new.mark ≡ old.mark
   pub readings : new.readings ≡ readings_after now r old.readings
-  pub faults : Counts r old.faults new.faults
+  pub faults : CountsFailures r old.faults new.faults

@@ -1,5 +1,6 @@
 //! The registry and its calls.
 ghost use Rattle.std.specs.Prelude.{◌≡◌, ◌≢◌, ◌≤◌, ◌<◌, ◌&&◌, [], ◌∷◌, ◌++◌, length, map, position, nat_le, slice_get, filter, vec_len, if◌then◌else◌, IfErr, IfOk, IfSome, IsOk, OnErr, OnOk};
+ghost use Rattle.std.specs.List.{All};
 ghost use Rattle.std.specs.Option.{ok_or};
 ghost use Rattle.std.specs.Result.{result_err};
 ghost use Rattle.std.specs.Vec.{vec_capacity};
@@ -110,8 +111,10 @@ impl<P: Plug, Q: Probe> Registry<P, Q> {
     /// The number of the live registration of a name, where it has all of these kinds.
     pub fn find(&self, name: &Text, kinds: Kinds) -> Option<u64>
         requires { kinds.0 ≢ 0 }
-        ensures { result ≡
+        ensures number { result ≡
             live_number_with kinds.0 name.now (rows P.plug_tells Q.probe_tells self.now) }
+        ensures live { IfSome result (λ reg.
+            At (rows P.plug_tells Q.probe_tells self.now) reg IsLive) }
     {
         as_number(slot_with(&self.slots, name, kinds))
     }
@@ -119,8 +122,10 @@ impl<P: Plug, Q: Probe> Registry<P, Q> {
     /// The numbers of the live registrations that have all of these kinds, in order.
     pub fn listening(&self, alloc: Global, kinds: Kinds) -> Result<Regs, Memory>
         requires { kinds.0 ≢ 0 }
-        ensures { IfOk result (λ regs.
+        ensures numbers { IfOk result (λ regs.
             regs ≡ listening kinds.0 (rows P.plug_tells Q.probe_tells self.now)) }
+        ensures live { IfOk result (λ regs. All (λ reg.
+            At (rows P.plug_tells Q.probe_tells self.now) reg IsLive) regs) }
     {
         listening_slots(alloc, &self.slots, kinds)
     }
@@ -216,6 +221,7 @@ impl<P: Plug, Q: Probe> Registry<P, Q> {
         ensures err { OnErr result (rows P.plug_tells Q.probe_tells self.new ≡
             rows P.plug_tells Q.probe_tells self.old) }
         ensures room { KeepsOtherRoom reg self.old self.new }
+        ensures kept { OnErr result (KeepsRoom self.old self.new) }
     {
         let at = reg as usize;
         if at >= self.slots.len() {

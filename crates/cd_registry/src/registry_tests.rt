@@ -4,8 +4,8 @@ ghost use Rattle.cd_registry.specs.Registry.{rows};
 ghost use Rattle.cd_registry.specs.Rows.{At, IsPlugOut, IsProbeOut};
 
 use crate::{
-    AddFault, Call, Kinds, MemberOf, NotRegistered, Plug, Probe, Reading, Registry, RetireFault,
-    Telling,
+    AddFault, Answer, Call, Kinds, LeaseOf, MemberOf, NotRegistered, Plug, Probe, Reading,
+    Registry, RetireFault, Telling,
 };
 use cd_value::Text;
 use std::alloc::Global;
@@ -44,7 +44,7 @@ fn add<P: Plug, Q: Probe>(
 /// Posts a call to the live writer of a name.
 fn post<P: Plug, Q: Probe>(registry: &mut Registry<P, Q>, name: &Text, call: Call) -> Option<u64> {
     let reg = registry.find(name, Kinds::WRITE)?;
-    registry.reserve(reg, 1).ok()?;
+    registry.reserve(reg, 2).ok()?;
     registry.post(reg, call).ok()?;
     Some(reg)
 }
@@ -238,5 +238,26 @@ fn refuses_names(rt: HostRuntime) -> Result<(), Fail> {
     );
     assert_eq!(rt; got, Ok(256));
     assert!(rt; registry.retire(3).is_ok());
+    Ok(())
+}
+
+#[test]
+fn leases_enter_with_their_call(rt: HostRuntime) -> Result<(), Fail> {
+    let alloc = rt.alloc();
+    let table = [
+        (Answer::Done, Some(1)),
+        (Answer::Failed, Some(1)),
+        (Answer::Memory, None),
+    ];
+    for (answer, told) in table {
+        let lease = LeaseOf {
+            reg: 4,
+            object: Telling::new(alloc, 1, vec![in alloc; answer]?),
+            call: text_call(alloc, "x")?,
+        };
+        let entered = lease.enter();
+        assert_eq!(rt; (entered.reg, entered.answer), (4, answer));
+        assert_eq!(rt; entered.object.calls().map(|calls| calls.len()), told);
+    }
     Ok(())
 }

@@ -1,7 +1,7 @@
 //! A plug-in that keeps what it got.
 ghost use Rattle.std.specs.Prelude.{◌≡◌, ◌≢◌, ◌⊎◌, ◌++◌, ◌+◌, [], ◌∷◌, Some, None, OnOk, drop, option_copied, slice_get};
 ghost use Rattle.cd_registry.specs.Told.{calls_after, told_after};
-ghost use Rattle.cd_registry.specs.Telling.{answer_at};
+ghost use Rattle.cd_registry.specs.Answering.{answer_at};
 
 use crate::{Answer, AnsweredCall, Call, Plug};
 use cd_value::{Memory, Sequence, TryCopy};
@@ -19,7 +19,7 @@ pub struct Telling {
 }
 
 impl Telling {
-    ghost use Rattle.cd_registry.specs.Answering.{answers_left};
+    ghost use Rattle.cd_registry.specs.Telling.{answers_left};
 
     /// A plug-in that has got no call, and that will give these answers.
     pub fn new(alloc: Global, mark: u64, answers: Vec<Answer>) -> Self
@@ -95,7 +95,7 @@ fn keep(
 }
 
 impl Plug for Telling {
-    ghost use Rattle.cd_registry.specs.Answering.{answers_left};
+    ghost use Rattle.cd_registry.specs.Telling.{answers_left};
 
     ghost plug_tells = { λ t. record { mark = t.mark; calls = t.calls } };
 

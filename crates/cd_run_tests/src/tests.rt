@@ -1,11 +1,12 @@
 //! Runs over memory with one plug-in, whose answers and lines are worked by hand.
-ghost use Rattle.std.specs.Prelude.{◌≤◌, IfOk, length};
+ghost use Rattle.std.specs.Prelude.{IfOk, length, ◌≤◌};
 
 use cd_history::Given;
 use cd_io::{LinkPlan, MemLink, MemWorld};
-use cd_registry::{Answer, Call, Kinds, Plug, Probe, Telling};
+use cd_registry::{Answer, Call, Kinds, Plug, Probe, Reading, Telling};
 use cd_serve::{
-    End, INPUT_LIMIT, RanOf, Shelved, ShelvedOf, ShelvedProbeOf, run, run_of, status, text_of,
+    End, INPUT_LIMIT, RanOf, Shelved, ShelvedOf, ShelvedProbe, ShelvedProbeOf, run, run_of, status,
+    text_of,
 };
 use cd_value::{Memory, Text, Value};
 use std::alloc::Global;
@@ -23,12 +24,12 @@ fn words(alloc: Global, word: &str) -> Result<Vec<String>, Memory> {
     Ok(words)
 }
 
-/// A shelf with the writer `w`.
-fn shelf(alloc: Global) -> Result<Vec<ShelvedOf<Telling>>, Memory>
+/// A shelf with a writer of that name.
+fn shelf(alloc: Global, name: &str) -> Result<Vec<ShelvedOf<Telling>>, Memory>
     ensures few { IfOk result (λ plugs. length plugs.items ≤ 1) }
 {
     let plug = ShelvedOf {
-        name: Text::of(alloc, "w")?,
+        name: Text::of(alloc, name)?,
         kinds: Kinds::WRITE,
         object: Telling::new(alloc, 7, Vec::new(alloc)),
     };
@@ -37,15 +38,28 @@ fn shelf(alloc: Global) -> Result<Vec<ShelvedOf<Telling>>, Memory>
     Ok(plugs)
 }
 
-/// A run over these bytes, with what it wrote.
+/// A run over these bytes with the writer `w`, and what it wrote.
 fn ran(
     alloc: Global,
     word: &str,
     bytes: &[u8],
     plan: LinkPlan,
 ) -> Result<(RanOf<Telling, ()>, Vec<u8>), Fail> {
+    let plugs = shelf(alloc, "w")?;
+    ran_with(alloc, plugs, word, bytes, plan)
+}
+
+/// A run over these bytes with these plug-ins, and what it wrote.
+fn ran_with(
+    alloc: Global,
+    plugs: Vec<ShelvedOf<Telling>>,
+    word: &str,
+    bytes: &[u8],
+    plan: LinkPlan,
+) -> Result<(RanOf<Telling, ()>, Vec<u8>), Fail>
+    requires { length plugs.items ≤ 1 }
+{
     let words = words(alloc, word)?;
-    let plugs = shelf(alloc)?;
     let probes: Vec<ShelvedProbeOf<()>> = Vec::new(alloc);
     let mut world = MemWorld::new(alloc, (2_000_000_000 * SECOND, SECOND), (5, 3));
     let mut input = MemLink::new(alloc, bytes.to_vec(alloc)?, plan);
@@ -286,7 +300,48 @@ fn words_and_ends(rt: HostRuntime) -> Result<(), Fail> {
 }
 
 #[test]
-fn boxed_plug_in_comes_back(rt: HostRuntime) -> Result<(), Fail> {
+fn nobody_writes(rt: HostRuntime) -> Result<(), Fail> {
+    let alloc = rt.alloc();
+    let lines = b"PUTVAL h/p/derive interval=10 1000:5\nLISTVAL\n";
+    let written = b"0 Success\n1 Value found\n1000 h/p/derive\n";
+    let given = [
+        ("now", 2_000_000_000 * SECOND),
+        ("word", 5),
+        ("now", 2_000_000_001 * SECOND),
+        ("now", 2_000_000_002 * SECOND),
+    ];
+    let reserved = shelf(alloc, "threshold")?;
+    let plan = LinkPlan::new(alloc);
+    let (refused, output) = ran_with(alloc, reserved, "--lines", lines.as_slice(), plan)?;
+    assert_eq!(rt; refused.end, End::Done);
+    assert_eq!(rt; output.as_slice(), written.as_slice());
+    assert_eq!(rt; calls_of(&refused), Some(0));
+    assert!(rt; gave(&refused, given.as_slice()));
+    let plan = LinkPlan::new(alloc);
+    let (empty, output) = ran_with(alloc, Vec::new(alloc), "--lines", lines.as_slice(), plan)?;
+    assert_eq!(rt; empty.end, End::Done);
+    assert_eq!(rt; output.as_slice(), written.as_slice());
+    assert_eq!(rt; empty.plugs.len(), 0);
+    assert!(rt; gave(&empty, given.as_slice()));
+    Ok(())
+}
+
+/// A reader that tells no readings.
+#[derive(Drop)]
+struct Silent;
+
+impl Probe for Silent {
+    ghost use Rattle.std.specs.Prelude.{None};
+
+    ghost probe_tells = { λ probe. record { mark = 0; faults = 0; readings = None } };
+
+    fn read(&mut self, _now: u64) -> Reading {
+        Reading::Memory
+    }
+}
+
+#[test]
+fn boxed_objects_come_back(rt: HostRuntime) -> Result<(), Fail> {
     let alloc = rt.alloc();
     let words = words(alloc, "--lines")?;
     let object: Box<dyn Plug + Send> = Box::new(alloc, Telling::new(alloc, 7, Vec::new(alloc)))?;
@@ -296,7 +351,12 @@ fn boxed_plug_in_comes_back(rt: HostRuntime) -> Result<(), Fail> {
         kinds: Kinds::WRITE,
         object,
     })?;
-    let probes: Vec<ShelvedProbeOf<Box<dyn Probe + Send>>> = Vec::new(alloc);
+    let reader: Box<dyn Probe + Send> = Box::new(alloc, Silent)?;
+    let mut probes = Vec::new(alloc);
+    probes.push(ShelvedProbe {
+        name: Text::of(alloc, "r")?,
+        object: reader,
+    })?;
     let mut world = MemWorld::new(alloc, (0, 1), (0, 1));
     let mut input = MemLink::new(
         alloc,
@@ -313,6 +373,9 @@ fn boxed_plug_in_comes_back(rt: HostRuntime) -> Result<(), Fail> {
     );
     assert_eq!(rt; ran.end, End::Done);
     assert_eq!(rt; ran.plugs.len(), 1);
+    let back = ran.probes.first().ok_or("no reader")?;
+    assert_eq!(rt; back.name.as_str(), "r");
+    assert_eq!(rt; input.output(), Some(b"0 Success\n".as_slice()));
     Ok(())
 }
 
@@ -333,8 +396,8 @@ fn ends_well(ran: &RanOf<Telling, ()>, output: &[u8]) -> bool {
     }
 }
 
-/// `rt try --test --fail-alloc N` runs this with the Nth allocation failing: where that is one of the test's own, or the link
-/// couldn't keep what was said, the test ends with that, and else it passes.
+/// `rt try --test --fail-alloc N` runs this with the Nth allocation failing: where that is one of the test's own, or the
+/// link couldn't keep what was said, the test ends with that, and else it passes.
 #[test]
 fn five_lines_end_well_or_lack_memory(rt: HostRuntime) -> Result<(), Fail> {
     let alloc = rt.alloc();

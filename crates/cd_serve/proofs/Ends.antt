@@ -1,33 +1,33 @@
 -- How a run begins and ends.
-use Rattle.std.proofs.Common.{◌≡◌, ℕ, Bool, true, false, List, [], ◌∷◌, length, Some, Ok, Err, IfSome, refl, sym, ap, ◌∙◌, subst, inl, inr}
+use Rattle.cd_cache.specs.Cache.{CacheMap, empty}
+use Rattle.cd_daemon.specs.Answers.{close_answer, register_answer}
+use Rattle.cd_daemon.specs.Calls.{calls_to}
+use Rattle.cd_daemon.specs.Legal.{IsLegal}
+use Rattle.cd_daemon.specs.declared.Opening.{Opening}
+use Rattle.cd_history.specs.History.{History, handles, kept, ◌▸◌}
+use Rattle.cd_history.specs.Leases.{answers_to}
+use Rattle.cd_history.specs.Registrations.{Registration, closed_by, is_text, live, registrations}
+use Rattle.cd_history.specs.declared.entry.Entry.TheVariants as entry
+use Rattle.cd_history.specs.declared.entry.Joining.TheVariants as joining
+use Rattle.cd_history.specs.declared.entry.RegisterFault.TheVariants as refused
+use Rattle.cd_history.specs.declared.entry.RegisterFault.{RegisterFault}
+use Rattle.cd_history.specs.declared.entry.Why.TheVariants as why
+use Rattle.cd_history.specs.declared.given.Given.{Given}
+use Rattle.cd_registry.specs.Faults.{is_reserved}
+use Rattle.cd_serve.proofs.Shelves.{bytes_same, returned-same}
+use Rattle.cd_serve.proofs.Steps.{all_handled, live-is, same_number, works_on}
+use Rattle.cd_serve.specs.Promises.{IsRun}
+use Rattle.cd_serve.specs.Working.Standing.{AreOf, RunsOn, Standing, Writes, registration_of}
+use Rattle.cd_sock.specs.Lines.{Cut}
+use Rattle.cd_transcript.proofs.Determined.{one_history}
+use Rattle.cd_transcript.proofs.Events.{closed-of_lines}
+use Rattle.cd_transcript.specs.LineRuns.{IsLineRun, OnShelf, Opens, ServesLines, closed, none, nothing, plug_in, registers, returned}
+use Rattle.cd_transcript.specs.Transcripts.{line_says, of_lines}
+use Rattle.std.proofs.Common.{Bool, Err, IfSome, List, Ok, Some, [], ap, false, inl, inr, length, refl, subst, sym, true, ℕ, ◌∙◌, ◌∷◌, ◌≡◌}
 use Rattle.std.proofs.lemmas.List.{append-nil}
 use Rattle.std.specs.List.{find}
 use Rattle.std.specs.Option.{option_map}
 use Rattle.std.specs.declared.result.Result.{Result}
-use Rattle.cd_history.specs.declared.entry.Entry.TheVariants as entry
-use Rattle.cd_history.specs.declared.entry.Joining.TheVariants as joining
-use Rattle.cd_history.specs.declared.entry.RegisterFault.{RegisterFault}
-use Rattle.cd_history.specs.declared.entry.RegisterFault.TheVariants as refused
-use Rattle.cd_history.specs.declared.entry.Why.TheVariants as why
-use Rattle.cd_history.specs.declared.given.Given.{Given}
-use Rattle.cd_history.specs.History.{History, ◌▸◌, handles, kept}
-use Rattle.cd_history.specs.Registrations.{Registration, registrations, is_text, live, closed_by}
-use Rattle.cd_history.specs.Leases.{answers_to}
-use Rattle.cd_daemon.specs.declared.Opening.{Opening}
-use Rattle.cd_cache.specs.Cache.{CacheMap, empty}
-use Rattle.cd_daemon.specs.declared.TheConstants.{TIMEOUT}
-use Rattle.cd_daemon.specs.Calls.{calls_to}
-use Rattle.cd_daemon.specs.Answers.{is_reserved, register_answer, close_answer}
-use Rattle.cd_daemon.specs.Legal.{IsLegal}
-use Rattle.cd_sock.specs.Lines.{Cut}
-use Rattle.cd_transcript.specs.Transcripts.{line_says, of_lines}
-use Rattle.cd_transcript.specs.LineRuns.{OnShelf, Opens, none, plug_in, registers, returned, nothing, ServesLines, closed, IsLineRun}
-use Rattle.cd_transcript.proofs.Events.{closed-of_lines}
-use Rattle.cd_transcript.proofs.Determined.{one_history}
-use Rattle.cd_serve.specs.Working.Standing.{Standing, registration_of, AreOf, Writes, RunsOn}
-use Rattle.cd_serve.specs.Promises.{IsRun}
-use Rattle.cd_serve.proofs.Steps.{works_on, same_number, live-is, all_handled}
-use Rattle.cd_serve.proofs.Shelves.{returned-same, bytes_same}
 
 -- ---- the beginning
 
@@ -45,7 +45,7 @@ pub registered_legal : (K : Opening) (shelf : List OnShelf) (P : History) → Is
 registered_legal K [] P legal = legal
 registered_legal K (plug ∷ plugs) P legal = registered_legal K plugs (P ▸ registers P plug) (legal, refl)
 
-begun : (K : Opening) → Standing K false [] [] (empty TIMEOUT) []
+begun : (K : Opening) → Standing K false [] [] (empty K.timeout) []
 begun K = record {
   legal = tt;
   is_so = refl;
@@ -61,7 +61,7 @@ begun K = record {
   caches = refl;
 }
 
-pub run_begins_empty : (K : Opening) → RunsOn K [] [] false [] (empty TIMEOUT) (registered [] [])
+pub run_begins_empty : (K : Opening) → RunsOn K [] [] false [] (empty K.timeout) (registered [] [])
 run_begins_empty K = record { regs = []; standing = begun K; of_shelf = refl; writes = refl; back = refl }
 
 module _ (K : Opening) (plug : OnShelf) where
@@ -69,9 +69,9 @@ module _ (K : Opening) (plug : OnShelf) where
   with_reply reply = [] ▸ entry.Register 0 plug.name (joining.Plug plug.kinds [] plug.tells) reply
 
   -- a reserved name is refused
-  pub run_begins_refused : is_reserved plug.name ≡ true → RunsOn K (plug ∷ []) (plug ∷ []) false [] (empty TIMEOUT) (registered (plug ∷ []) [])
+  pub run_begins_refused : is_reserved plug.name ≡ true → RunsOn K (plug ∷ []) (plug ∷ []) false [] (empty K.timeout) (registered (plug ∷ []) [])
   run_begins_refused taken =
-      subst (λ (reply : Result ℕ RegisterFault). RunsOn K (plug ∷ []) (plug ∷ []) false [] (empty TIMEOUT) (with_reply reply)) (sym is) (record {
+      subst (λ (reply : Result ℕ RegisterFault). RunsOn K (plug ∷ []) (plug ∷ []) false [] (empty K.timeout) (with_reply reply)) (sym is) (record {
         regs = [];
         standing = record {
           legal = (tt, sym is);
@@ -96,9 +96,9 @@ module _ (K : Opening) (plug : OnShelf) where
       is = rw taken refl
 
   pub run_begins : (writer : Bool) → is_reserved plug.name ≡ false → Writes writer (registration_of plug ∷ [])
-      → RunsOn K (plug ∷ []) (plug ∷ []) writer [] (empty TIMEOUT) (registered (plug ∷ []) [])
+      → RunsOn K (plug ∷ []) (plug ∷ []) writer [] (empty K.timeout) (registered (plug ∷ []) [])
   run_begins writer free writes =
-      subst (λ (reply : Result ℕ RegisterFault). RunsOn K (plug ∷ []) (plug ∷ []) writer [] (empty TIMEOUT) (with_reply reply)) (sym is) (record {
+      subst (λ (reply : Result ℕ RegisterFault). RunsOn K (plug ∷ []) (plug ∷ []) writer [] (empty K.timeout) (with_reply reply)) (sym is) (record {
         regs = registration_of plug ∷ [];
         standing = record {
           legal = (tt, sym is);

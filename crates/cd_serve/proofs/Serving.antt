@@ -1,43 +1,41 @@
 -- Lines are served, one after the other.
-use Rattle.std.proofs.Common.{◌≡◌, ℕ, List, [], ◌∷◌, ◌++◌, map, Option, None, Some, IfSome, IfOk, IsTrue, Result, Ok, Err, refl, sym, ap, ◌∙◌, subst, append_assoc}
-use Rattle.std.proofs.lemmas.List.{append-nil}
-use Rattle.std.specs.List.{list_all}
-use Rattle.cd_value.specs.declared.data.Offered.{Offered}
-use Rattle.cd_value.specs.declared.data.ValueList.{ValueList}
-use Rattle.cd_value.specs.declared.data.DataSet.{DataSet}
-use Rattle.cd_value.specs.Identifier.{Fields, name_of}
-use Rattle.cd_types.specs.Types.{fits}
-use Rattle.cd_cache.specs.Cache.{CacheMap}
-use Rattle.cd_cache.specs.Cache.{cached}
+use Rattle.cd_cache.specs.Cache.{CacheMap, cached}
 use Rattle.cd_cache.specs.Rows.{rows_of}
-use Rattle.cd_sock.specs.declared.command.Command.{Command}
-use Rattle.cd_sock.specs.declared.command.Command.TheVariants as command
-use Rattle.cd_sock.specs.declared.fault.LineFault.{LineFault}
-use Rattle.cd_sock.specs.declared.fault.LineFault.TheVariants as faults
-use Rattle.cd_sock.specs.declared.reply.Reply.{Reply}
-use Rattle.cd_sock.specs.declared.reply.Reply.TheVariants as reply
-use Rattle.std.specs.Prelude.{IsOkAnd}
-use Rattle.cd_reading.specs.Gives.{Gives, Refuses}
-use Rattle.cd_sock.specs.Faults.{line_fault}
-use Rattle.cd_sock.specs.Lines.{Cut}
-use Rattle.cd_sock.specs.Replies.{reply_text}
-use Rattle.cd_sock.specs.Meaning.{meaning, IsSameButTimes, ListsFit}
+use Rattle.cd_daemon.specs.Answers.{accept_answer, found_in, query_answer}
+use Rattle.cd_daemon.specs.declared.Opening.{Opening}
+use Rattle.cd_history.specs.History.{History, ◌▸◌}
 use Rattle.cd_history.specs.declared.entry.Entry.TheVariants as entry
 use Rattle.cd_history.specs.declared.entry.Found.{Found}
 use Rattle.cd_history.specs.declared.entry.Stopping.{Stopping}
-use Rattle.cd_history.specs.declared.given.Given.{Given}
 use Rattle.cd_history.specs.declared.given.Given.TheVariants.{Now, Word}
-use Rattle.cd_history.specs.History.{History, ◌▸◌}
-use Rattle.cd_daemon.specs.declared.Opening.{Opening}
-use Rattle.cd_daemon.specs.Answers.{accept_answer, query_answer, found_in}
-use Rattle.cd_transcript.specs.Transcripts.{Said, line_says, IsTranscript, of_lines, found_reply, offered_reply}
-use Rattle.cd_transcript.specs.LineRuns.{ServesLines, Works, IsAsked, nothing, blank, refused, put, got, listed, one_more}
-use Rattle.cd_transcript.proofs.Events.{written_more, blank_writes, refused_writes, put_writes, got_writes, listed_writes}
-use Rattle.cd_daemon.specs.declared.TheConstants.{INTERVAL}
-use Rattle.cd_serve.specs.Working.Progress.{Seen, opening_of, HasServed, IsWorking, with_moment, Puts, Obeys, Serves, IsNotBlank}
+use Rattle.cd_history.specs.declared.given.Given.{Given}
+use Rattle.cd_reading.specs.Gives.{Gives, Refuses}
 use Rattle.cd_serve.proofs.Gifts.{gave_moment, gave_words}
-use Rattle.cd_serve.proofs.Steps.{accepted_ok, works_on}
 use Rattle.cd_serve.proofs.Shelves.{run_accepts, run_asks}
+use Rattle.cd_serve.proofs.Steps.{accepted_ok, works_on}
+use Rattle.cd_serve.specs.Working.Progress.{HasServed, IsNotBlank, IsWorking, Obeys, Puts, Seen, Serves, opening_of, with_moment}
+use Rattle.cd_sock.specs.Faults.{line_fault}
+use Rattle.cd_sock.specs.Lines.{Cut}
+use Rattle.cd_sock.specs.Meaning.{IsSameButTimes, ListsFit, meaning}
+use Rattle.cd_sock.specs.Replies.{reply_text}
+use Rattle.cd_sock.specs.declared.command.Command.TheVariants as command
+use Rattle.cd_sock.specs.declared.command.Command.{Command}
+use Rattle.cd_sock.specs.declared.fault.LineFault.TheVariants as faults
+use Rattle.cd_sock.specs.declared.fault.LineFault.{LineFault}
+use Rattle.cd_sock.specs.declared.reply.Reply.TheVariants as reply
+use Rattle.cd_sock.specs.declared.reply.Reply.{Reply}
+use Rattle.cd_transcript.proofs.Events.{blank_writes, got_writes, listed_writes, put_writes, refused_writes, written_more}
+use Rattle.cd_transcript.specs.LineRuns.{IsAsked, ServesLines, Works, blank, got, listed, nothing, one_more, put, refused}
+use Rattle.cd_transcript.specs.Transcripts.{IsTranscript, Said, found_reply, line_says, of_lines, offered_reply}
+use Rattle.cd_types.specs.Types.{fits}
+use Rattle.cd_value.specs.Identifier.{Fields, name_of}
+use Rattle.cd_value.specs.declared.data.DataSet.{DataSet}
+use Rattle.cd_value.specs.declared.data.Offered.{Offered}
+use Rattle.cd_value.specs.declared.data.ValueList.{ValueList}
+use Rattle.std.proofs.Common.{Err, IfOk, IfSome, IsTrue, List, None, Ok, Option, Result, Some, [], ap, append_assoc, map, refl, subst, sym, ℕ, ◌++◌, ◌∙◌, ◌∷◌, ◌≡◌}
+use Rattle.std.proofs.lemmas.List.{append-nil}
+use Rattle.std.specs.List.{list_all}
+use Rattle.std.specs.Prelude.{IsOkAnd}
 
 -- no work is left
 still : {K : Opening} (P : History) → Works K IsAsked P [] P
@@ -50,6 +48,7 @@ module _ (begun : Seen) (lines : List Cut) (text : List ℕ) (old : Seen) (h : H
     opened = h.opened;
     past = h.past;
     types = h.types;
+    interval = h.interval;
     opens = h.opens;
     runs = h.runs;
     serves = subst (λ (given : List Given). ServesLines (opening_of begun) (line_says (opening_of begun)) (lines ++ line ∷ []) h.opened given h.past) (append-nil old.given) (one_more h.serves (blank is));
@@ -65,6 +64,7 @@ module _ (begun : Seen) (lines : List Cut) (text : List ℕ) (old : Seen) (h : H
       opened = h.opened;
       past = h.past;
       types = h.types;
+      interval = h.interval;
       opens = h.opens;
       runs = h.runs;
       serves = one_more h.serves (refused is (works_on h.runs.standing nothing));
@@ -72,16 +72,17 @@ module _ (begun : Seen) (lines : List Cut) (text : List ℕ) (old : Seen) (h : H
       gave = gave_moment begun.pairs old.pairs old.given now h.gave at;
     }
 
-    same_cache : (name : List ℕ) → query_answer (opening_of begun) h.past (Some name) ≡ found_in (opening_of old) (cached name old.cache)
+    same_cache : (name : List ℕ) → query_answer (opening_of begun) h.past (Some name) ≡ found_in old.types (cached name old.cache)
     same_cache name = rw (h.runs.standing.caches, h.types) refl
 
     -- a name is asked for
     pub served_asked : (id : Fields) → line_says (opening_of begun) line 0 ≡ Ok (command.GetVal id)
-        → HasServed begun (lines ++ line ∷ []) (text ++ reply_text (found_reply (found_in (opening_of old) (cached (name_of id) old.cache)))) (with_moment now old)
+        → HasServed begun (lines ++ line ∷ []) (text ++ reply_text (found_reply (found_in old.types (cached (name_of id) old.cache)))) (with_moment now old)
     served_asked id is = record {
       opened = h.opened;
       past = h.past ▸ entry.Query 0 (Some (name_of id)) (query_answer (opening_of begun) h.past (Some (name_of id)));
       types = h.types;
+      interval = h.interval;
       opens = h.opens;
       runs = run_asks (Some (name_of id)) h.runs;
       serves = one_more h.serves (got is (works_on (run_asks (Some (name_of id)) h.runs).standing nothing));
@@ -97,6 +98,7 @@ module _ (begun : Seen) (lines : List Cut) (text : List ℕ) (old : Seen) (h : H
       opened = h.opened;
       past = h.past ▸ entry.Query 0 None (query_answer (opening_of begun) h.past None);
       types = h.types;
+      interval = h.interval;
       opens = h.opens;
       runs = run_asks None h.runs;
       serves = one_more h.serves (listed is (works_on (run_asks None h.runs).standing nothing));
@@ -117,6 +119,7 @@ module _ (begun : Seen) (lines : List Cut) (text : List ℕ) (old : Seen) (h : H
       begins = let W : Seen → Type 0 = IsWorking begun start puts.mid.given lists in subst W (sym puts.rolled.seen) (record {
         past = start;
         types = h.types;
+        interval = h.interval;
         runs = run_accepts lists words now h.runs (let F : List DataSet → Type 0 = λ types. IsTrue (list_all (fits types) lists) in subst F h.types fit) puts.rolled.many;
         given = [];
         follows = sym (append-nil _) ∙ ap (λ (given : List Given). given ++ []) (sym (ap (λ (s : Seen). s.given) puts.rolled.seen));
@@ -138,6 +141,7 @@ module _ (begun : Seen) (lines : List Cut) (text : List ℕ) (old : Seen) (h : H
         opened = h.opened;
         past = ends.past;
         types = ends.types;
+        interval = ends.interval;
         opens = h.opens;
         runs = ends.runs;
         serves = subst (λ (given : List Given). ServesLines (opening_of begun) (line_says (opening_of begun)) (lines ++ line ∷ []) h.opened given ends.past) (sym given_is)
@@ -147,9 +151,13 @@ module _ (begun : Seen) (lines : List Cut) (text : List ℕ) (old : Seen) (h : H
         gave = ends.gave;
       }
 
--- the meaning with the types of a run's beginning
-along_types : (types begun : List DataSet) (now : ℕ) (bytes : List ℕ) (said : Said) → types ≡ begun → meaning types now INTERVAL bytes ≡ said → meaning begun now INTERVAL bytes ≡ said
-along_types types begun now bytes said same is = let M : List DataSet → Type 0 = λ ts. meaning ts now INTERVAL bytes ≡ said in subst M same is
+-- the meaning with the types and the interval of a run's beginning
+along : (seen begun : Seen) (now : ℕ) (bytes : List ℕ) (said : Said) → seen.types ≡ begun.types → seen.interval ≡ begun.interval
+    → meaning seen.types now seen.interval bytes ≡ said → meaning begun.types now begun.interval bytes ≡ said
+along seen begun now bytes said types interval is =
+    let M : List DataSet → Type 0 = λ ts. meaning ts now seen.interval bytes ≡ said in
+    let N : ℕ → Type 0 = λ i. meaning begun.types now i bytes ≡ said in
+    subst N interval (subst M types is)
 
 -- what a line that offers lists, asks for a name or for all says at another moment
 module _ (types : List DataSet) (bytes : List ℕ) where
@@ -165,20 +173,20 @@ module _ (types : List DataSet) (bytes : List ℕ) where
   put_at_zero lists (Err e) h = absurd h
 
 obeyed : (begun : Seen) (lines : List Cut) (text : List ℕ) (old : Seen) (h : HasServed begun lines text old) (bytes : List ℕ) (now : ℕ) (at : IfSome old.pairs.clock (λ pair. now ≡ pair.0))
-    (said : Command) (answer : Reply) (new : Seen) → IsNotBlank bytes → meaning begun.types now INTERVAL bytes ≡ Ok said → IsOkAnd (meaning begun.types 0 INTERVAL bytes) (IsSameButTimes said)
+    (said : Command) (answer : Reply) (new : Seen) → IsNotBlank bytes → meaning begun.types now begun.interval bytes ≡ Ok said → IsOkAnd (meaning begun.types 0 begun.interval bytes) (IsSameButTimes said)
     → ListsFit old.types said → Obeys said answer (with_moment now old) new → HasServed begun (lines ++ Some bytes ∷ []) (text ++ reply_text answer) new
-obeyed begun lines text old h bytes now at command.Blank answer new not is zero fit o = absurd (not begun.types now INTERVAL is)
+obeyed begun lines text old h bytes now at command.Blank answer new not is zero fit o = absurd (not begun.types now begun.interval is)
 obeyed begun lines text old h bytes now at (command.PutVal lists) answer new not is zero fit o =
-    let first = put_at_zero begun.types bytes lists (meaning begun.types 0 INTERVAL bytes) zero in
+    let first = put_at_zero begun.types bytes lists (meaning begun.types 0 begun.interval bytes) zero in
     let A : Reply → Type 0 = λ a. HasServed begun (lines ++ Some bytes ∷ []) (text ++ reply_text a) new in
     subst A (sym o.0) (served_put begun lines text old h (Some bytes) now at lists first.0 new o.1 fit first.1 is)
 obeyed begun lines text old h bytes now at (command.GetVal id) answer new not is zero fit o =
-    let first = some_command begun.types bytes (command.GetVal id) (meaning begun.types 0 INTERVAL bytes) zero in
+    let first = some_command begun.types bytes (command.GetVal id) (meaning begun.types 0 begun.interval bytes) zero in
     let A : Reply → Type 0 = λ a. HasServed begun (lines ++ Some bytes ∷ []) (text ++ reply_text a) new in
-    let S : Seen → Type 0 = λ s. HasServed begun (lines ++ Some bytes ∷ []) (text ++ reply_text (found_reply (found_in (opening_of old) (cached (name_of id) old.cache)))) s in
+    let S : Seen → Type 0 = λ s. HasServed begun (lines ++ Some bytes ∷ []) (text ++ reply_text (found_reply (found_in old.types (cached (name_of id) old.cache)))) s in
     subst A (sym o.1) (subst S (sym o.0) (served_asked begun lines text old h (Some bytes) now at id (first.1 ∙ ap Ok (sym first.2))))
 obeyed begun lines text old h bytes now at command.ListVal answer new not is zero fit o =
-    let first = some_command begun.types bytes command.ListVal (meaning begun.types 0 INTERVAL bytes) zero in
+    let first = some_command begun.types bytes command.ListVal (meaning begun.types 0 begun.interval bytes) zero in
     let A : Reply → Type 0 = λ a. HasServed begun (lines ++ Some bytes ∷ []) (text ++ reply_text a) new in
     let S : Seen → Type 0 = λ s. HasServed begun (lines ++ Some bytes ∷ []) (text ++ reply_text (reply.Listed (rows_of old.cache))) s in
     subst A (sym o.1) (subst S (sym o.0) (served_listed begun lines text old h (Some bytes) now at (first.1 ∙ ap Ok (sym first.2))))
@@ -187,20 +195,23 @@ module _ (old at_moment : Seen) (now : ℕ) (at : IfSome old.pairs.clock (λ pai
   same_types : at_moment.types ≡ old.types
   same_types = ap (λ (s : Seen). s.types) then
 
-  pub serves_command : (bytes : List ℕ) (said : Command) (answer : Reply) (new : Seen) → IsNotBlank bytes → Gives (λ c. c) line_fault (Ok said) (meaning at_moment.types now INTERVAL bytes)
+  same_interval : at_moment.interval ≡ old.interval
+  same_interval = ap (λ (s : Seen). s.interval) then
+
+  pub serves_command : (bytes : List ℕ) (said : Command) (answer : Reply) (new : Seen) → IsNotBlank bytes → Gives (λ c. c) line_fault (Ok said) (meaning at_moment.types now at_moment.interval bytes)
       → ((later other : ℕ) → IsOkAnd (meaning at_moment.types later other bytes) (IsSameButTimes said))
       → ListsFit at_moment.types said → Obeys said answer at_moment new → Serves (Some bytes) (reply_text answer) old new
   serves_command bytes said answer new not is zero fit o begun lines text h =
-      obeyed begun lines text old h bytes now at said answer new not (along_types at_moment.types begun.types now bytes (Ok said) (same_types ∙ h.types) is)
-      (let Z : List DataSet → Type 0 = λ types. IsOkAnd (meaning types 0 INTERVAL bytes) (IsSameButTimes said) in subst Z (same_types ∙ h.types) (zero 0 INTERVAL))
+      obeyed begun lines text old h bytes now at said answer new not (along at_moment begun now bytes (Ok said) (same_types ∙ h.types) (same_interval ∙ h.interval) is)
+      (let Z : List DataSet → Type 0 = λ types. IsOkAnd (meaning types 0 begun.interval bytes) (IsSameButTimes said) in subst Z (same_types ∙ h.types) (zero 0 begun.interval))
       (let F : List DataSet → Type 0 = λ types. ListsFit types said in subst F same_types fit)
       (let O : Seen → Type 0 = λ s. Obeys said answer s new in subst O then o)
 
-  pub serves_fault : (bytes : List ℕ) (fault : LineFault) → meaning at_moment.types 0 INTERVAL bytes ≡ Err fault → Serves (Some bytes) (reply_text (reply.Fault fault)) old at_moment
+  pub serves_fault : (bytes : List ℕ) (fault : LineFault) → meaning at_moment.types 0 at_moment.interval bytes ≡ Err fault → Serves (Some bytes) (reply_text (reply.Fault fault)) old at_moment
   serves_fault bytes fault is begun lines text h =
       let S : Seen → Type 0 = λ s. HasServed begun (lines ++ Some bytes ∷ []) (text ++ reply_text (reply.Fault fault)) s in
       subst S (sym then) (served_refused begun lines text old h (Some bytes) now at fault
-      (along_types at_moment.types begun.types 0 bytes (Err fault) (same_types ∙ h.types) is))
+      (along at_moment begun 0 bytes (Err fault) (same_types ∙ h.types) (same_interval ∙ h.interval) is))
 
   pub serves_too_long : Serves None (reply_text (reply.Fault faults.LineTooLong)) old at_moment
   serves_too_long begun lines text h =
@@ -208,7 +219,7 @@ module _ (old at_moment : Seen) (now : ℕ) (at : IfSome old.pairs.clock (λ pai
       subst S (sym then) (served_refused begun lines text old h None now at faults.LineTooLong refl)
 
 serves_blank : (old : Seen) (bytes : List ℕ) → ((types : List DataSet) (now interval : ℕ) → meaning types now interval bytes ≡ Ok command.Blank) → Serves (Some bytes) [] old old
-serves_blank old bytes is begun lines text h = served_blank begun lines text old h (Some bytes) (is begun.types 0 INTERVAL)
+serves_blank old bytes is begun lines text h = served_blank begun lines text old h (Some bytes) (is begun.types 0 begun.interval)
 
 refuses_known : {A : Type 0} (fault : LineFault) (read : Result A LineFault) → line_fault fault ≡ Some fault → Refuses (line_fault fault) read → read ≡ Err fault
 refuses_known fault read known is = let R : Option LineFault → Type 0 = λ f. Refuses f read in subst R known is
@@ -229,4 +240,4 @@ pub serves_refusal : (old at_moment : Seen) (now : ℕ) (bytes : List ℕ) (faul
     → answer ≡ reply.Fault fault → line_fault fault ≡ Some fault → ((later other : ℕ) → Refuses (line_fault fault) (meaning at_moment.types later other bytes)) → Serves (Some bytes) (reply_text answer) old at_moment
 serves_refusal old at_moment now bytes fault answer at then is known refuses =
     let A : Reply → Type 0 = λ a. Serves (Some bytes) (reply_text a) old at_moment in
-    subst A (sym is) (serves_fault old at_moment now at then bytes fault (refuses_known fault _ known (refuses 0 INTERVAL)))
+    subst A (sym is) (serves_fault old at_moment now at then bytes fault (refuses_known fault _ known (refuses 0 at_moment.interval)))

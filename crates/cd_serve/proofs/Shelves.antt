@@ -1,30 +1,30 @@
 -- What the plug-ins of a run tell, step by step.
-use Rattle.std.proofs.Common.{◌≡◌, ℕ, Bool, true, false, List, [], ◌∷◌, ◌++◌, length, map, Option, IsTrue, refl, sym, ap, ◌∙◌, arith, inr}
+use Rattle.cd_cache.specs.Cache.{CacheMap}
+use Rattle.cd_daemon.specs.Answers.{accept_answer, handle_answer, query_answer}
+use Rattle.cd_daemon.specs.Calls.{answered, answered_as, answered_calls, calls_to}
+use Rattle.cd_daemon.specs.Handling.{stored}
+use Rattle.cd_daemon.specs.declared.Opening.{Opening}
+use Rattle.cd_history.specs.History.{History, ◌▸◌}
+use Rattle.cd_history.specs.Leases.{answers_to}
+use Rattle.cd_history.specs.Registrations.{Registration, has_kind, is_text, listening, registrations}
+use Rattle.cd_history.specs.declared.entry.Entry.TheVariants as entry
+use Rattle.cd_registry.specs.Told.{told_after, told_after_all}
+use Rattle.cd_registry.specs.declared.calls.Answer.{Answer}
+use Rattle.cd_registry.specs.declared.calls.AnsweredCall.{AnsweredCall}
+use Rattle.cd_registry.specs.declared.calls.Call.TheVariants as calls
+use Rattle.cd_registry.specs.declared.calls.Call.{Call}
+use Rattle.cd_registry.specs.declared.kinds.TheConstants.Kinds.{WRITE}
+use Rattle.cd_registry.specs.declared.plug.PlugTells.{PlugTells}
+use Rattle.cd_serve.proofs.Steps.{accepts, after_done, asks, calls_to-after_done, calls_to-unwritten, handles_unwritten, handles_written, live-is, same_number}
+use Rattle.cd_serve.specs.Working.Outside.{called_first}
+use Rattle.cd_serve.specs.Working.Standing.{IsWriter, RunsOn, Standing, registration_of}
+use Rattle.cd_transcript.specs.LineRuns.{OnShelf, returned}
+use Rattle.cd_types.specs.Types.{fits}
+use Rattle.cd_value.specs.declared.data.ValueList.{ValueList}
+use Rattle.std.proofs.Common.{Bool, IsTrue, List, Option, [], ap, arith, false, inr, length, map, refl, sym, true, ℕ, ◌++◌, ◌∙◌, ◌∷◌, ◌≡◌}
 use Rattle.std.proofs.lemmas.List.{append-nil}
 use Rattle.std.specs.List.{filter, flat_map, list_all}
 use Rattle.std.specs.Str.{bytes_eq}
-use Rattle.cd_value.specs.declared.data.ValueList.{ValueList}
-use Rattle.cd_registry.specs.declared.calls.Answer.{Answer}
-use Rattle.cd_registry.specs.declared.calls.AnsweredCall.{AnsweredCall}
-use Rattle.cd_registry.specs.declared.calls.Call.{Call}
-use Rattle.cd_registry.specs.declared.calls.Call.TheVariants as calls
-use Rattle.cd_registry.specs.declared.plug.PlugTells.{PlugTells}
-use Rattle.cd_registry.specs.Told.{told_after, told_after_all}
-use Rattle.cd_types.specs.Types.{fits}
-use Rattle.cd_history.specs.declared.entry.Entry.TheVariants as entry
-use Rattle.cd_history.specs.History.{History, ◌▸◌}
-use Rattle.cd_registry.specs.declared.kinds.TheConstants.Kinds.{WRITE}
-use Rattle.cd_history.specs.Registrations.{Registration, registrations, listening, is_text, has_kind}
-use Rattle.cd_history.specs.Leases.{answers_to}
-use Rattle.cd_daemon.specs.declared.Opening.{Opening}
-use Rattle.cd_cache.specs.Cache.{CacheMap}
-use Rattle.cd_daemon.specs.Handling.{stored}
-use Rattle.cd_daemon.specs.Calls.{calls_to, answered, answered_as, answered_calls}
-use Rattle.cd_daemon.specs.Answers.{accept_answer, handle_answer, query_answer}
-use Rattle.cd_transcript.specs.LineRuns.{OnShelf, returned}
-use Rattle.cd_serve.specs.Working.Standing.{Standing, IsWriter, registration_of, RunsOn}
-use Rattle.cd_serve.specs.Working.Outside.{called_first}
-use Rattle.cd_serve.proofs.Steps.{accepts, asks, handles_unwritten, handles_written, after_done, calls_to-after_done, same_number, live-is, calls_to-unwritten}
 
 pub bytes_same : (xs : List ℕ) → bytes_eq xs xs ≡ true
 bytes_same [] = refl
@@ -114,7 +114,7 @@ nobody_listens s = ap (λ (gs : List Registration). map (λ g. g.number) (filter
 
 pub run_handles_unwritten : {K : Opening} {opened shelf : List OnShelf} {queue : List ValueList} {cache : CacheMap} {P : History} (v : ValueList) (now : ℕ)
     → RunsOn K opened shelf false (v ∷ queue) cache P
-    → RunsOn K opened shelf false queue (stored K v now cache) (P ▸ entry.Handle 0 now (handle_answer K P now))
+    → RunsOn K opened shelf false queue (stored K.types v now cache) (P ▸ entry.Handle 0 now (handle_answer K P now))
 run_handles_unwritten {K = K} {opened = opened} {queue = queue} {P = P} v now s = record {
   regs = s.regs;
   standing = handles_unwritten v queue now s.standing (nobody_listens s);
@@ -126,7 +126,7 @@ run_handles_unwritten {K = K} {opened = opened} {queue = queue} {P = P} v now s 
 -- a written list leaves this history of a run with one plug-in
 pub run_handles_written : (K : Opening) (plug : OnShelf) (shelf : List OnShelf) (queue : List ValueList) (cache : CacheMap) (P : History) (v : ValueList) (now : ℕ) (answer : Answer)
     → RunsOn K (plug ∷ []) shelf true (v ∷ queue) cache P → Standing K false (registration_of plug ∷ []) (v ∷ queue) cache P → IsWriter (registration_of plug)
-    → RunsOn K (plug ∷ []) (called_first (calls.Write v) answer shelf) true queue (stored K v now cache) (after_done K false (registration_of plug) P v queue cache now answer)
+    → RunsOn K (plug ∷ []) (called_first (calls.Write v) answer shelf) true queue (stored K.types v now cache) (after_done K false (registration_of plug) P v queue cache now answer)
 run_handles_written K plug shelf queue cache P v now answer s standing writer = record {
   regs = registration_of plug ∷ [];
   standing = handles_written K false (registration_of plug) P v queue cache now answer standing writer;

@@ -1,30 +1,29 @@
 -- The steps of a daemon with at most one plug-in.
-use Rattle.std.proofs.Common.{◌≡◌, ◌+◌, ◌<◌, ℕ, Bool, true, false, not, ◌&&◌, cond, List, [], ◌∷◌, ◌++◌, length, map, Option, None, Some, Ok, IsTrue, nat_eq, nat_le, refl, sym, ap, ◌∙◌, subst, append_assoc, arith, length-append}
+use Rattle.cd_cache.specs.Cache.{CacheMap}
+use Rattle.cd_daemon.specs.Answers.{accept_answer, handle_answer, is_idle, is_ready, next_call, query_answer, ready}
+use Rattle.cd_daemon.specs.Calls.{cache_after, calls_to, pending, sent_to}
+use Rattle.cd_daemon.specs.Handling.{Handling, handling, handling_if_any, next_handling, next_list, stored, to_each}
+use Rattle.cd_daemon.specs.declared.Opening.{Opening}
+use Rattle.cd_history.specs.History.{History, handles, kept, kept_of, ◌▸◌}
+use Rattle.cd_history.specs.Leases.{answers_to, taken_by, takes}
+use Rattle.cd_history.specs.Registrations.{Registration, is_closed, is_plug, is_retired, listening, live, registrations}
+use Rattle.cd_history.specs.declared.entry.Entry.TheVariants as entry
+use Rattle.cd_history.specs.declared.given.Given.TheVariants.{Answered, Now}
+use Rattle.cd_history.specs.declared.given.Given.{Given}
+use Rattle.cd_registry.specs.declared.calls.Answer.{Answer}
+use Rattle.cd_registry.specs.declared.calls.Call.TheVariants as calls
+use Rattle.cd_registry.specs.declared.calls.Call.{Call}
+use Rattle.cd_registry.specs.declared.kinds.TheConstants.Kinds.{WRITE}
+use Rattle.cd_serve.specs.Working.Standing.{IsWriter, Standing}
+use Rattle.cd_transcript.specs.LineRuns.{IsAsked, Works, WorksUntilIdle, called, handled}
+use Rattle.cd_types.specs.Types.{fits}
+use Rattle.cd_value.specs.declared.data.Offered.TheVariants.{Kept}
+use Rattle.cd_value.specs.declared.data.ValueList.{ValueList}
+use Rattle.std.proofs.Common.{Bool, IsTrue, List, None, Ok, Option, Some, [], ap, append_assoc, arith, cond, false, length, length-append, map, nat_eq, nat_le, not, refl, subst, sym, true, ℕ, ◌&&◌, ◌++◌, ◌+◌, ◌<◌, ◌∙◌, ◌∷◌, ◌≡◌}
+use Rattle.std.proofs.Math.Seq.{get_or-append_seam}
 use Rattle.std.proofs.lemmas.List.{append-nil}
 use Rattle.std.proofs.lemmas.Option.{slice_get-get_or}
-use Rattle.std.proofs.Math.Seq.{get_or-append_seam}
 use Rattle.std.specs.List.{filter, find, list_all, slice_get}
-use Rattle.cd_value.specs.declared.data.ValueList.{ValueList}
-use Rattle.cd_value.specs.declared.data.Offered.TheVariants.{Kept}
-use Rattle.cd_registry.specs.declared.calls.Answer.{Answer}
-use Rattle.cd_registry.specs.declared.calls.Call.{Call}
-use Rattle.cd_registry.specs.declared.calls.Call.TheVariants as calls
-use Rattle.cd_types.specs.Types.{fits}
-use Rattle.cd_history.specs.declared.entry.Entry.TheVariants as entry
-use Rattle.cd_history.specs.declared.given.Given.{Given}
-use Rattle.cd_history.specs.declared.given.Given.TheVariants.{Now, Answered}
-use Rattle.cd_history.specs.History.{History, ◌▸◌, handles, kept, kept_of}
-use Rattle.cd_registry.specs.declared.kinds.TheConstants.Kinds.{WRITE}
-use Rattle.cd_history.specs.Registrations.{Registration, registrations, live, listening, is_closed, is_retired, is_plug}
-use Rattle.cd_history.specs.Leases.{takes, answers_to, taken_by}
-use Rattle.cd_daemon.specs.declared.Opening.{Opening}
-use Rattle.cd_cache.specs.Cache.{CacheMap}
-use Rattle.cd_daemon.specs.Handling.{Handling, to_each, stored, handling, handling_if_any, next_list, next_handling}
-use Rattle.cd_daemon.specs.Calls.{cache_after}
-use Rattle.cd_daemon.specs.Calls.{calls_to, pending, sent_to}
-use Rattle.cd_daemon.specs.Answers.{accept_answer, handle_answer, query_answer, ready, is_ready, next_call, is_idle}
-use Rattle.cd_transcript.specs.LineRuns.{Works, called, handled, WorksUntilIdle, IsAsked}
-use Rattle.cd_serve.specs.Working.Standing.{Standing, IsWriter}
 
 -- ---- lists
 
@@ -113,7 +112,7 @@ handles-as {K = K} {cache = cache} {P = P} v queue now s =
 
 -- the cache after the next list
 stored_next : {K : Opening} {stopped : Bool} {regs : List Registration} {cache : CacheMap} {P : History} (v : ValueList) (queue : List ValueList) (now : ℕ)
-    → Standing K stopped regs (v ∷ queue) cache P → (next_handling K (cache_after K P) P now).cache ≡ stored K v now cache
+    → Standing K stopped regs (v ∷ queue) cache P → (next_handling K (cache_after K P) P now).cache ≡ stored K.types v now cache
 stored_next v queue now s = ap (λ (h : Handling). h.cache) (handles-as v queue now s)
 
 -- the calls that it makes
@@ -134,7 +133,7 @@ calls_to-unwritten {K = K} {P = P} v queue now s nobody r = rw (posts_next v que
 
 pub handles_unwritten : {K : Opening} {stopped : Bool} {regs : List Registration} {cache : CacheMap} {P : History} (v : ValueList) (queue : List ValueList) (now : ℕ)
     → Standing K stopped regs (v ∷ queue) cache P → listening WRITE P ≡ []
-    → Standing K stopped regs queue (stored K v now cache) (P ▸ entry.Handle 0 now (handle_answer K P now))
+    → Standing K stopped regs queue (stored K.types v now cache) (P ▸ entry.Handle 0 now (handle_answer K P now))
 handles_unwritten {K = K} {P = P} v queue now s nobody = record {
   legal = (s.legal, (refl, one_queued v queue s));
   is_so = s.is_so;
@@ -223,7 +222,7 @@ module _ (K : Opening) (stopped : Bool) (g : Registration) (P : History) (v : Va
   at_home true o e = refl
   at_home false o e = e
 
-  pub handles_written : Standing K stopped (g ∷ []) (v ∷ queue) cache P → IsWriter g → Standing K stopped (g ∷ []) queue (stored K v now cache) after_done
+  pub handles_written : Standing K stopped (g ∷ []) (v ∷ queue) cache P → IsWriter g → Standing K stopped (g ∷ []) queue (stored K.types v now cache) after_done
   handles_written s w = record {
     legal = (((s.legal, (refl, one_queued v queue s)), (ready_then s w, next_then s w)), rw (same_number g.number) refl);
     is_so = s.is_so;

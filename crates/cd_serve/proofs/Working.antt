@@ -1,31 +1,30 @@
 -- The steps of a daemon that works on a line.
-use Rattle.std.proofs.Common.{◌≡◌, ℕ, ◌+◌, Bool, true, false, List, [], ◌∷◌, ◌++◌, map, Option, IfSome, OnOk, Result, Ok, Err, refl, sym, ap, ◌∙◌, subst, inl, inr, append_assoc, length-append, arith}
-use Rattle.std.proofs.lemmas.List.{append-nil, map-append}
-use Rattle.cd_io.specs.Told.{dice_after}
-use Rattle.std.specs.Option.{option_map}
-use Rattle.cd_value.specs.declared.data.ValueList.{ValueList}
-use Rattle.cd_registry.specs.declared.calls.Answer.{Answer}
-use Rattle.cd_registry.specs.declared.calls.Call.TheVariants as calls
 use Rattle.cd_cache.specs.Cache.{CacheMap}
-use Rattle.cd_history.specs.declared.entry.Entry.TheVariants as entry
-use Rattle.cd_history.specs.declared.given.Given.{Given}
-use Rattle.cd_history.specs.declared.given.Given.TheVariants.{Now, Word, Answered}
-use Rattle.cd_history.specs.History.{History, ◌▸◌}
-use Rattle.cd_history.specs.Registrations.{Registration}
 use Rattle.cd_daemon.specs.Answers.{handle_answer}
 use Rattle.cd_daemon.specs.Handling.{stored}
-use Rattle.cd_transcript.specs.LineRuns.{OnShelf, returned, handled}
-use Rattle.cd_serve.specs.Working.Standing.{Standing, IsWriter, registration_of, AreOf, Writes, RunsOn}
-use Rattle.cd_serve.specs.Working.Outside.{called_first}
-use Rattle.cd_serve.specs.Tells.{Gave}
-use Rattle.cd_serve.specs.Working.Progress.{Seen, opening_of, IsWorking, with_moment, with_list, with_answer, with_word, WasCalled, Rolled}
-use Rattle.cd_serve.proofs.Gifts.{gave_moment, gave_answer, one_more_word}
-use Rattle.cd_serve.proofs.Steps.{none_ready, one_queued, works_written, after_done}
+use Rattle.cd_history.specs.History.{History, ◌▸◌}
+use Rattle.cd_history.specs.Registrations.{Registration}
+use Rattle.cd_history.specs.declared.entry.Entry.TheVariants as entry
+use Rattle.cd_history.specs.declared.given.Given.TheVariants.{Answered, Now, Word}
+use Rattle.cd_history.specs.declared.given.Given.{Given}
+use Rattle.cd_io.specs.Told.{dice_after}
+use Rattle.cd_registry.specs.declared.calls.Answer.{Answer}
+use Rattle.cd_registry.specs.declared.calls.Call.TheVariants as calls
+use Rattle.cd_serve.proofs.Gifts.{gave_answer, gave_moment, one_more_word}
 use Rattle.cd_serve.proofs.Shelves.{run_handles_unwritten, run_handles_written}
+use Rattle.cd_serve.proofs.Steps.{after_done, none_ready, one_queued, works_written}
+use Rattle.cd_serve.specs.Working.Outside.{GaveUpTo, called_first}
+use Rattle.cd_serve.specs.Working.Progress.{IsWorking, Rolled, Seen, WasCalled, opening_of, with_answer, with_list, with_moment, with_word}
+use Rattle.cd_serve.specs.Working.Standing.{AreOf, IsWriter, RunsOn, Standing, Writes, registration_of}
+use Rattle.cd_transcript.specs.LineRuns.{OnShelf, handled, returned}
+use Rattle.cd_value.specs.declared.data.ValueList.{ValueList}
+use Rattle.std.proofs.Common.{Bool, Err, IfSome, List, Ok, OnOk, Option, Result, [], ap, append_assoc, arith, false, inl, inr, length-append, map, refl, subst, sym, true, ℕ, ◌++◌, ◌+◌, ◌∙◌, ◌∷◌, ◌≡◌}
+use Rattle.std.proofs.lemmas.List.{append-nil, map-append}
+use Rattle.std.specs.Option.{option_map}
 
 module _ (begun : Seen) (start : History) (before : List Given) (list : ValueList) (queue : List ValueList) (seen : Seen) (now : ℕ) where
   -- the cache is made with the types that the daemon knows
-  cache_same : seen.types ≡ begun.types → stored (opening_of seen) list now seen.cache ≡ stored (opening_of begun) list now seen.cache
+  cache_same : seen.types ≡ begun.types → stored seen.types list now seen.cache ≡ stored begun.types list now seen.cache
   cache_same e = rw e refl
 
   -- nobody writes the list
@@ -34,8 +33,9 @@ module _ (begun : Seen) (start : History) (before : List Given) (list : ValueLis
   handled_unwritten w at unwritten = record {
     past = w.past ▸ entry.Handle 0 now (handle_answer (opening_of begun) w.past now);
     types = w.types;
+    interval = w.interval;
     runs = let R : CacheMap → Type 0 = λ cache. RunsOn (opening_of begun) begun.shelf seen.shelf seen.writer queue cache (w.past ▸ entry.Handle 0 now (handle_answer (opening_of begun) w.past now)) in
-        subst R (sym (cache_same w.types)) (let F : Bool → Type 0 = λ writer. RunsOn (opening_of begun) begun.shelf seen.shelf writer queue (stored (opening_of begun) list now seen.cache) (w.past ▸ entry.Handle 0 now (handle_answer (opening_of begun) w.past now)) in
+        subst R (sym (cache_same w.types)) (let F : Bool → Type 0 = λ writer. RunsOn (opening_of begun) begun.shelf seen.shelf writer queue (stored begun.types list now seen.cache) (w.past ▸ entry.Handle 0 now (handle_answer (opening_of begun) w.past now)) in
         subst F (sym unwritten) (run_handles_unwritten list now (let G : Bool → Type 0 = λ writer. RunsOn (opening_of begun) begun.shelf seen.shelf writer (list ∷ queue) seen.cache w.past in subst G unwritten w.runs)));
     given = w.given ++ Now now ∷ [];
     follows = ap (λ (g : List Given). g ++ Now now ∷ []) w.follows ∙ append_assoc before w.given (Now now ∷ []);
@@ -64,14 +64,15 @@ module _ (begun : Seen) (start : History) (before : List Given) (list : ValueLis
       let one : RunsOn (opening_of begun) (plug ∷ []) seen.shelf true (list ∷ queue) seen.cache w.past =
       (let O : List OnShelf → Type 0 = λ opened. RunsOn (opening_of begun) opened seen.shelf true (list ∷ queue) seen.cache w.past in subst O by.1 r) in
       let Q : History = after_done (opening_of begun) false (registration_of plug) w.past list queue seen.cache now answer in
-      let then_runs : RunsOn (opening_of begun) (plug ∷ []) (called_first (calls.Write list) answer seen.shelf) true queue (stored (opening_of begun) list now seen.cache) Q =
+      let then_runs : RunsOn (opening_of begun) (plug ∷ []) (called_first (calls.Write list) answer seen.shelf) true queue (stored begun.types list now seen.cache) Q =
       run_handles_written (opening_of begun) plug seen.shelf queue seen.cache w.past list now answer one standing by.3 in
       record {
         past = Q;
         types = w.types;
+        interval = w.interval;
         runs = (let R : CacheMap → Type 0 = λ cache. RunsOn (opening_of begun) begun.shelf (called_first (calls.Write list) answer seen.shelf) seen.writer queue cache Q in
-            subst R (sym (cache_same w.types)) (let F : Bool → Type 0 = λ writer. RunsOn (opening_of begun) begun.shelf (called_first (calls.Write list) answer seen.shelf) writer queue (stored (opening_of begun) list now seen.cache) Q in
-            subst F (sym written) (let O : List OnShelf → Type 0 = λ opened. RunsOn (opening_of begun) opened (called_first (calls.Write list) answer seen.shelf) true queue (stored (opening_of begun) list now seen.cache) Q in subst O (sym by.1) then_runs)));
+            subst R (sym (cache_same w.types)) (let F : Bool → Type 0 = λ writer. RunsOn (opening_of begun) begun.shelf (called_first (calls.Write list) answer seen.shelf) writer queue (stored begun.types list now seen.cache) Q in
+            subst F (sym written) (let O : List OnShelf → Type 0 = λ opened. RunsOn (opening_of begun) opened (called_first (calls.Write list) answer seen.shelf) true queue (stored begun.types list now seen.cache) Q in subst O (sym by.1) then_runs)));
         given = (w.given ++ Now now ∷ []) ++ Answered answer ∷ [];
         follows = ap (λ (g : List Given). (g ++ Now now ∷ []) ++ Answered answer ∷ []) w.follows
             ∙ ap (λ (g : List Given). g ++ Answered answer ∷ []) (append_assoc before w.given (Now now ∷ []))
@@ -128,7 +129,7 @@ pub rolled_more : (old mid new : Seen) (count word : ℕ) → Rolled count old m
 rolled_more old mid new count word r at is = record {
   words = r.words ++ word ∷ [];
   many = omega (arith, length-append r.words (word ∷ []), r.many);
-  gave = let G : Option (ℕ × ℕ) → Type 0 = λ last. Gave dice_after old.pairs.dice (r.words ++ word ∷ []) last in
+  gave = let G : Option (ℕ × ℕ) → Type 0 = λ last. GaveUpTo dice_after old.pairs.dice (r.words ++ word ∷ []) last in
       subst G (sym (ap (λ (s : Seen). s.pairs.dice) is)) (one_more_word old.pairs.dice mid.pairs.dice r.words word r.gave at);
   seen = is ∙ ap (with_word word) r.seen ∙ seen_then ∙ sym (ap (λ (s : Seen). record old { given = old.given ++ map Word (r.words ++ word ∷ []); pairs = record { clock = old.pairs.clock; dice = s.pairs.dice } }) is);
 }

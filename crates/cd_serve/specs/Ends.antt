@@ -1,11 +1,11 @@
 -- How a run ends, and the exit status and the message of each end.
-use Rattle.std.specs.Prelude.{ℕ, List, [], ◌++◌, codes, Result, Ok, Err}
-use Rattle.cd_dialogue.specs.declared.ends.DialogueFault.{DialogueFault}
 use Rattle.cd_dialogue.specs.declared.ends.DialogueFault.TheVariants as faults
-use Rattle.cd_dialogue.specs.declared.ends.InputEnd.{InputEnd}
+use Rattle.cd_dialogue.specs.declared.ends.DialogueFault.{DialogueFault}
 use Rattle.cd_dialogue.specs.declared.ends.InputEnd.TheVariants as input
-use Rattle.cd_serve.specs.declared.end.End.{End}
+use Rattle.cd_dialogue.specs.declared.ends.InputEnd.{InputEnd}
 use Rattle.cd_serve.specs.declared.end.End.TheVariants as ends
+use Rattle.cd_serve.specs.declared.end.End.{End}
+use Rattle.std.specs.Prelude.{Err, List, Ok, Result, [], codes, ℕ, ◌++◌}
 
 abbrev pub status_of : End → ℕ
 status_of ends.Done = 0
@@ -25,9 +25,10 @@ message_of ends.LinkFault = message (codes "link failed")
 message_of ends.InputTooLong = message (codes "input too long")
 message_of ends.Memory = message (codes "out of memory")
 
--- the end of a run whose input was served so
+-- the end of a run whose input was served so; the daemon of a run never closes its dialogue
 abbrev pub end_of : Result InputEnd DialogueFault → End
 end_of (Ok input.Ended) = ends.Done
+end_of (Ok input.Closed) = ends.Done
 end_of (Ok input.TooLong) = ends.InputTooLong
 end_of (Err faults.Link) = ends.LinkFault
 end_of (Err faults.Memory) = ends.Memory

@@ -1,9 +1,9 @@
 -- Plug-ins on a shelf, by what they tell.
-use Rattle.std.specs.Prelude.{ℕ, List, map}
 use Rattle.cd_registry.specs.declared.kinds.Kinds.{Kinds}
 use Rattle.cd_registry.specs.declared.plug.PlugTells.{PlugTells}
-use Rattle.cd_transcript.specs.LineRuns.{OnShelf}
 use Rattle.cd_serve.specs.declared.shelf.ShelvedOf.{ShelvedOf}
+use Rattle.cd_transcript.specs.LineRuns.{OnShelf}
+use Rattle.std.specs.Prelude.{List, map, ℕ}
 
 abbrev pub shown : {P : Type 0} (tells : P → PlugTells) → ShelvedOf P → OnShelf
 shown tells plug = record { name = plug.name; kinds = plug.kinds; tells = tells plug.object }

@@ -1,19 +1,21 @@
 //! The daemon of a run on one thread.
-ghost use Rattle.std.specs.Prelude.{◌≡◌, false, [], ◌∷◌, ℕ, List, map, IfOk, IfSome, OnOk, Some};
-ghost use Rattle.cd_value.specs.declared.data.ValueList.{ValueList};
-ghost use Rattle.cd_history.specs.declared.given.Given.{Given};
-ghost use Rattle.cd_history.specs.History.{History};
 ghost use Rattle.cd_cache.specs.Cache.{cached};
+ghost use Rattle.cd_daemon.specs.Answers.{found_in, source_names};
+ghost use Rattle.cd_dialogue.specs.declared.server.Next.TheVariants as nexts;
+ghost use Rattle.cd_history.specs.History.{History};
+ghost use Rattle.cd_history.specs.declared.given.Given.{Given};
+ghost use Rattle.cd_serve.specs.Working.Progress.{HandlesAll, HandlesOne, IsNotBlank, IsServed, IsWorking, KeepsPlaces};
+ghost use Rattle.cd_serve.specs.Working.Progress.{Obeys, Puts, Rolled, Seen, Serves, WasCalled, seen_of, with_list};
+ghost use Rattle.cd_serve.specs.Working.Progress.{with_moment, with_word};
 ghost use Rattle.cd_sock.specs.Faults.{line_fault};
 ghost use Rattle.cd_sock.specs.Lines.{content};
-ghost use Rattle.cd_daemon.specs.Answers.{found_in, source_names};
 ghost use Rattle.cd_transcript.specs.Transcripts.{found_reply};
-ghost use Rattle.cd_serve.specs.Working.Progress.{IsWorking, Seen, opening_of, seen_of, with_moment, with_word, with_list, Rolled, WasCalled, Puts, Obeys, Serves, IsNotBlank, IsServed, KeepsPlaces};
+ghost use Rattle.cd_value.specs.declared.data.ValueList.{ValueList};
+ghost use Rattle.std.specs.Prelude.{IfOk, IfSome, List, OnOk, Some, [], false, map, ℕ, ◌∷◌, ◌≡◌};
 
 use crate::outside::Outside;
 use cd_cache::{Cache, CacheEntry};
-use cd_daemon::INTERVAL;
-use cd_dialogue::Server;
+use cd_dialogue::{Next, Response, Server};
 use cd_history::{Given, Givens};
 use cd_registry::Call;
 use cd_sock::{Command, Line, LineFault, Reply, is_blank_line, print_reply};
@@ -21,11 +23,13 @@ use cd_types::TypesDb;
 use cd_value::{DataSource, Lists, Memory, Names, Text, TryCopy, ValueList};
 use std::alloc::Global;
 
-/// The daemon: the types that it knows, what it asks of the outside, whether the first plug-in there is registered as a
-/// writer, the value cache, and what the outside gave so far.
+/// The daemon: the types that it knows, the interval of lists that name none, in units of 2^-30 s, what it asks of the
+/// outside, whether the first plug-in there is registered as a writer, the value cache, and what the outside gave so
+/// far.
 #[derive(Drop)]
 pub struct Daemon<O> {
     pub types: TypesDb,
+    pub interval: u64,
     pub outside: O,
     pub writer: bool,
     pub cache: Cache,
@@ -105,9 +109,9 @@ impl<O: Outside> Daemon<O> {
 
     /// Handles a list of the queue: it comes to the cache, and is written where a writer is registered.
     fn handle(&mut self, alloc: Global, list: ValueList) -> Result<(), Memory>
-        ensures ok { OnOk result ((begun : Seen) (start : History) (before : List Given) (queue : List ValueList)
-            → IsWorking begun start before (list ∷ queue) (seen_of O.outside_pairs O.outside_shelf self.old)
-            → IsWorking begun start before queue (seen_of O.outside_pairs O.outside_shelf self.new)) }
+        ensures ok { OnOk result (HandlesOne list
+            (seen_of O.outside_pairs O.outside_shelf self.old)
+            (seen_of O.outside_pairs O.outside_shelf self.new)) }
         ensures back { KeepsPlaces O.outside_shelf self.old self.new }
     {
         let now = self.moment()?;
@@ -121,9 +125,9 @@ impl<O: Outside> Daemon<O> {
 
     /// Handles the lists of the queue in order.
     fn work(&mut self, alloc: Global, lists: Lists) -> Result<(), Memory>
-        ensures ok { OnOk result ((begun : Seen) (start : History) (before : List Given)
-            → IsWorking begun start before lists (seen_of O.outside_pairs O.outside_shelf self.old)
-            → IsWorking begun start before [] (seen_of O.outside_pairs O.outside_shelf self.new)) }
+        ensures ok { OnOk result (HandlesAll lists
+            (seen_of O.outside_pairs O.outside_shelf self.old)
+            (seen_of O.outside_pairs O.outside_shelf self.new)) }
         ensures back { KeepsPlaces O.outside_shelf self.old self.new }
     {
         for list in lists.into_vec() {
@@ -145,9 +149,8 @@ impl<O: Outside> Daemon<O> {
 
     /// The rates that are cached under a name.
     fn found(&self, alloc: Global, name: &Text) -> Result<Reply, Memory>
-        ensures { IfOk result (λ reply. reply ≡ found_reply (found_in
-            (opening_of (seen_of O.outside_pairs O.outside_shelf self.now))
-            (cached name.now self.now.cache))) }
+        ensures { IfOk result (λ reply. reply ≡ found_reply
+            (found_in self.now.types (cached name.now self.now.cache))) }
     {
         match self.cache.get(name) {
             Some(entry) => {
@@ -192,7 +195,7 @@ impl<O: Outside> Daemon<O> {
         ensures back { KeepsPlaces O.outside_shelf self.old self.new }
     {
         let now = self.moment()?;
-        match Command::read(alloc, line, &self.types, now, INTERVAL) {
+        match Command::read(alloc, line, &self.types, now, self.interval) {
             Ok(command) => {
                 let reply = self.obey(alloc, command)?;
                 print_reply(alloc, &reply)
@@ -214,17 +217,14 @@ impl<O: Outside> Daemon<O> {
         self.moment()?;
         print_reply(alloc, &Reply::Fault(LineFault::LineTooLong))
     }
-}
 
-impl<O: Outside> Server for Daemon<O> {
-    ghost serves_line = { λ line reply old new.
-        IsServed line reply
-        (seen_of O.outside_pairs O.outside_shelf old)
-        (seen_of O.outside_pairs O.outside_shelf new) };
-
-    ghost gives_up = { λ old new. KeepsPlaces O.outside_shelf old new };
-
-    fn serve(&mut self, alloc: Global, line: &Line) -> Result<Text, Memory> {
+    /// Serves a line.
+    fn answer(&mut self, alloc: Global, line: &Line) -> Result<Text, Memory>
+        ensures ok { IfOk result (λ reply. IsServed (content line.now) reply
+            (seen_of O.outside_pairs O.outside_shelf self.old)
+            (seen_of O.outside_pairs O.outside_shelf self.new)) }
+        ensures back { KeepsPlaces O.outside_shelf self.old self.new }
+    {
         match line {
             Line::TooLong => self.refuse(alloc),
             Line::Whole(bytes) => {
@@ -235,6 +235,23 @@ impl<O: Outside> Server for Daemon<O> {
                 }
             }
         }
+    }
+}
+
+/// The daemon never closes its dialogue.
+impl<O: Outside> Server for Daemon<O> {
+    ghost serves_line = { λ next line reply old new. (next ≡ nexts.GoOn) × IsServed line reply
+        (seen_of O.outside_pairs O.outside_shelf old)
+        (seen_of O.outside_pairs O.outside_shelf new) };
+
+    ghost gives_up = { λ line old new. KeepsPlaces O.outside_shelf old new };
+
+    fn serve(&mut self, alloc: Global, line: &Line) -> Result<Response, Memory> {
+        let reply = self.answer(alloc, line)?;
+        Ok(Response {
+            reply,
+            next: Next::GoOn,
+        })
     }
 }
 
@@ -250,7 +267,7 @@ fn refusal(fault: LineFault) -> Result<Reply, Memory>
 
 /// The names of the data sources of a cached list.
 fn source_names(alloc: Global, types: &TypesDb, entry: &CacheEntry) -> Result<Names, Memory>
-    ensures { IfOk result (λ names. names ≡ source_names (record { types = types.now }) entry.now) }
+    ensures { IfOk result (λ names. names ≡ source_names types.now entry.now) }
 {
     match types.get(entry.list.id.type_name.as_str()) {
         Some(set) => names_of(alloc, set.sources.as_slice()),

@@ -1,6 +1,6 @@
 //! How a run ends.
-ghost use Rattle.std.specs.Prelude.{◌≡◌, IfOk};
 ghost use Rattle.cd_serve.specs.Ends.{end_of, message_of, status_of};
+ghost use Rattle.std.specs.Prelude.{IfOk, ◌≡◌};
 
 use cd_dialogue::{DialogueFault, InputEnd};
 use cd_value::{Memory, Text};
@@ -55,7 +55,7 @@ pub(crate) fn end_of(served: Result<InputEnd, DialogueFault>) -> End
     ensures { result ≡ end_of served }
 {
     match served {
-        Ok(InputEnd::Ended) => End::Done,
+        Ok(InputEnd::Ended | InputEnd::Closed) => End::Done,
         Ok(InputEnd::TooLong) => End::InputTooLong,
         Err(DialogueFault::Link) => End::LinkFault,
         Err(DialogueFault::Memory) => End::Memory,

@@ -1,13 +1,14 @@
 //! What the daemon of a run asks of the outside: moments, words of the dice, and calls of its first plug-in.
 //!
-//! One trait without bounds of its own stands before the clock, the dice and the plug-ins, so that the daemon is generic in
-//! one type alone. (A method of a trait can't hand on clocks or plug-ins whose traits ask that they may go to other threads.)
-ghost use Rattle.std.specs.Prelude.{◌≡◌, IfSome, List};
-ghost use Rattle.cd_transcript.specs.LineRuns.{OnShelf};
-ghost use Rattle.cd_serve.specs.Tells.{Pairs};
-ghost use Rattle.cd_serve.specs.Shelf.{on_shelf, shown};
-ghost use Rattle.cd_serve.specs.Working.Outside.{Called, after_moment, after_word};
+//! One trait without bounds of its own stands before the clock, the dice and the plug-ins, so that the daemon is
+//! generic in one type alone. (A method of a trait can't hand on clocks or plug-ins whose traits ask that they may go
+//! to other threads.)
 ghost use Rattle.cd_registry.specs.Told.{told_after};
+ghost use Rattle.cd_serve.specs.Shelf.{on_shelf, shown};
+ghost use Rattle.cd_serve.specs.Tells.{Pairs};
+ghost use Rattle.cd_serve.specs.Working.Outside.{Called, after_moment, after_word};
+ghost use Rattle.cd_transcript.specs.LineRuns.{OnShelf};
+ghost use Rattle.std.specs.Prelude.{IfSome, List, ◌≡◌};
 
 use crate::shelf::ShelvedOf;
 use cd_io::{Clock, Dice};

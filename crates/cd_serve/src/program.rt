@@ -1,18 +1,18 @@
 //! The run of the daemon on one thread.
-ghost use Rattle.std.specs.Prelude.{◌≡◌, ◌≤◌, ◌⊎◌, ◌↔◌, true, false, IfOk, IfErr, length, map, string_bytes};
 ghost use Rattle.cd_io.specs.Causes.{Rose};
 ghost use Rattle.cd_io.specs.Link.{LinkTells};
-ghost use Rattle.cd_daemon.specs.Answers.{is_reserved};
+ghost use Rattle.cd_registry.specs.Faults.{is_reserved};
 ghost use Rattle.cd_serve.specs.Promises.{IsWithin, Promises, is_lines};
 ghost use Rattle.cd_serve.specs.Shelf.{on_shelf, places};
 ghost use Rattle.cd_serve.specs.Working.Progress.{opened, seen_of, writes_first};
+ghost use Rattle.std.specs.Prelude.{IfErr, IfOk, false, length, map, string_bytes, true, ◌↔◌, ◌≡◌, ◌≤◌, ◌⊎◌};
 
 use crate::daemon::Daemon;
 use crate::end::end_of;
 use crate::outside::{Around, Outside};
 use crate::{End, Shelved, ShelvedOf, ShelvedProbe, ShelvedProbeOf};
 use cd_cache::Cache;
-use cd_daemon::TIMEOUT;
+use cd_daemon::{INTERVAL, TIMEOUT};
 use cd_dialogue::serve_all;
 use cd_history::Givens;
 use cd_io::{Clock, Dice, Link, World};
@@ -65,7 +65,8 @@ fn writes_first<P: Plug>(shelf: &[ShelvedOf<P>]) -> bool
     }
 }
 
-/// A daemon before the first line, with the built-in types; the shelf comes back where memory was lacking for them.
+/// A daemon before the first line, with the built-in types and with the interval and the timeout that no option names;
+/// the shelf comes back where memory was lacking.
 fn begin<C: Clock, D: Dice, P: Plug>(
     alloc: Global,
     clock: C,
@@ -74,7 +75,8 @@ fn begin<C: Clock, D: Dice, P: Plug>(
 ) -> Result<Daemon<Around<C, D, P>>, Vec<ShelvedOf<P>>>
     requires few { length shelf.items ≤ 1 }
     ensures ok { IfOk result (λ daemon. seen_of
-        ⟦<Around<C, D, P> as Outside>⟧.outside_pairs ⟦<Around<C, D, P> as Outside>⟧.outside_shelf daemon
+        ⟦<Around<C, D, P> as Outside>⟧.outside_pairs
+        ⟦<Around<C, D, P> as Outside>⟧.outside_shelf daemon
         ≡ opened (on_shelf P.plug_tells shelf.items)
         (record { clock = C.clock_pair clock; dice = D.dice_pair dice })) }
     ensures err { IfErr result (λ back. back.items ≡ shelf.items) }
@@ -83,6 +85,7 @@ fn begin<C: Clock, D: Dice, P: Plug>(
     match TypesDb::builtin(alloc) {
         Ok(types) => Ok(Daemon {
             types,
+            interval: INTERVAL,
             outside: Around {
                 clock,
                 dice,
@@ -152,9 +155,9 @@ pub fn run_of<W: World, L: Link, P: Plug, Q: Drop>(
 }
 
 /// Runs the daemon on one thread: the words of the command line are the program's name and `--lines`, and the lines of
-/// the input are those of collectd-unixsock(5). The first plug-in is registered under its name, each line is answered, its
-/// lists come to the cache and are written, and at the end of the input all objects come back, each in its place. A quiet
-/// counts as the end of the input.
+/// the input are those of collectd-unixsock(5). The first plug-in is registered under its name, each line is answered,
+/// its lists come to the cache and are written, and at the end of the input all objects come back, each in its place. A
+/// quiet counts as the end of the input.
 ///
 /// It ends with `Usage` at other words, with `LinkFault` where the input failed, with `InputTooLong` where more than
 /// `INPUT_LIMIT` bytes came, and with `Memory` where memory was lacking.

@@ -3,7 +3,8 @@ use cd_registry::{Kinds, Plug, Probe};
 use cd_value::Text;
 use std::marker::Send;
 
-/// A plug-in that is handed to a run: the name under which it is registered, the kinds of its callbacks, and its object.
+/// A plug-in that is handed to a run: the name under which it is registered, the kinds of its callbacks, and its
+/// object.
 #[derive(Drop)]
 pub struct ShelvedOf<P> {
     pub name: Text,

@@ -14,7 +14,7 @@ use Rattle.cd_sock.specs.declared.reply.Reply.TheVariants as replies
 abbrev pub with_newline : List ℕ → List ℕ
 with_newline text = text ++ 10 ∷ []
 
--- the text of a fault; want of memory has none
+-- the text of a fault; a run never writes that of want of memory, since it ends there
 abbrev pub fault_text : LineFault → List ℕ
 fault_text faults.LineTooLong = codes "-1 Line too long"
 fault_text faults.NotUtf8 = codes "-1 Not UTF-8"

@@ -1,8 +1,9 @@
 //! The words of a command.
-ghost use Rattle.std.specs.Prelude.{◌≡◌};
-ghost use Rattle.std.specs.List.{list_all, position, before_first, after_first};
-ghost use Rattle.cd_sock.specs.Arguments.{argument, from_first_plain, has_key, interval_of, is_equals, is_keyword, is_plain, leading_options};
+ghost use Rattle.cd_sock.specs.Arguments.{argument, from_first_plain, has_key, interval_of, is_equals, is_keyword};
+ghost use Rattle.cd_sock.specs.Arguments.{is_plain, leading_options};
 ghost use Rattle.cd_sock.specs.Meaning.{has_interval, interval_in, is_interval};
+ghost use Rattle.std.specs.List.{after_first, before_first, list_all, position};
+ghost use Rattle.std.specs.Prelude.{◌≡◌};
 
 use crate::LineFault;
 use cd_text::{Word, read_time};

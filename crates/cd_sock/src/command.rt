@@ -1,11 +1,13 @@
 //! The commands of clients.
-ghost use Rattle.std.specs.Prelude.{◌≡◌, ◌↔◌, ℕ, IfErr, IfOk, IsOkAnd, IsTrue, List};
-ghost use Rattle.std.specs.List.{list_all};
 ghost use Rattle.cd_reading.specs.Gives.{Gives, Refuses};
 ghost use Rattle.cd_sock.specs.Faults.{line_fault};
 ghost use Rattle.cd_sock.specs.Lines.{cut};
+ghost use Rattle.cd_sock.specs.Meaning.{GivesAt, IsSameButTimes, ListsFit, at_moment, get_val, is_blank_byte};
+ghost use Rattle.cd_sock.specs.Meaning.{is_blank_line, list_val, meaning, put_known, put_parts, put_val};
+ghost use Rattle.cd_sock.specs.Meaning.{request_of_text, request_of_words, without_return};
 ghost use Rattle.cd_value.specs.declared.data.DataSet.{DataSet};
-ghost use Rattle.cd_sock.specs.Meaning.{GivesAt, IsSameButTimes, ListsFit, at_moment, get_val, is_blank_byte, is_blank_line, list_val, meaning, put_known, put_parts, put_val, request_of_text, request_of_words, without_return};
+ghost use Rattle.std.specs.List.{list_all};
+ghost use Rattle.std.specs.Prelude.{IfErr, IfOk, IsOkAnd, IsTrue, List, ℕ, ◌↔◌, ◌≡◌};
 
 use crate::arguments::{is_keyword, read_interval, split_options};
 use crate::lists::read_lists;

@@ -1,6 +1,6 @@
 //! Why a line is refused.
-ghost use Rattle.std.specs.Prelude.{◌≡◌};
 ghost use Rattle.cd_sock.specs.declared.fault.LineFault.TheVariants as faults;
+ghost use Rattle.std.specs.Prelude.{◌≡◌};
 
 use cd_text::WordFault;
 use cd_value::{IdFault, Memory};

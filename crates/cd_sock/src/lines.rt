@@ -1,10 +1,11 @@
 //! The lines of a stream of bytes, whatever the pieces in which it comes, as in
 //! collectd-unixsock(5).
-ghost use Rattle.std.specs.Prelude.{◌≡◌, ◌≤◌, ◌++◌, [], IfOk, IsOk, IsSome, OnOk, OnErr, List, Option, map, take, ℕ};
-ghost use Rattle.std.specs.List.{position, concat};
+ghost use Rattle.cd_sock.specs.Lines.{Cut, Finishes, HasCut, Takes, TakesAll, content, cut, cut_lines, if_not_empty};
+ghost use Rattle.cd_sock.specs.Lines.{is_newline};
+ghost use Rattle.std.specs.List.{concat, position};
 ghost use Rattle.std.specs.Option.{option_map, option_to_list};
+ghost use Rattle.std.specs.Prelude.{IfOk, IsOk, IsSome, List, OnErr, OnOk, Option, [], map, take, ℕ, ◌++◌, ◌≡◌, ◌≤◌};
 ghost use Rattle.std.specs.Vec.{vec_len};
-ghost use Rattle.cd_sock.specs.Lines.{Cut, Finishes, HasCut, Takes, TakesAll, content, cut, cut_lines, if_not_empty, is_newline};
 
 use cd_value::Memory;
 use std::alloc::Global;

@@ -1,10 +1,10 @@
 //! The value lists of PUTVAL.
-ghost use Rattle.std.specs.Prelude.{◌≡◌, IfOk, option_map};
-ghost use Rattle.std.specs.List.{list_all};
 ghost use Rattle.cd_reading.specs.Gives.{Gives};
 ghost use Rattle.cd_sock.specs.Faults.{line_fault};
 ghost use Rattle.cd_sock.specs.Meaning.{lists_of, lists_or_fault, value_fault};
 ghost use Rattle.cd_sock.specs.Values.{has_count, has_time};
+ghost use Rattle.std.specs.List.{list_all};
+ghost use Rattle.std.specs.Prelude.{IfOk, option_map, ◌≡◌};
 
 use crate::LineFault;
 use crate::values::{has_count, has_time, read_list};

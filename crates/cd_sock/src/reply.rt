@@ -1,8 +1,9 @@
 //! Replies to lines.
-ghost use Rattle.std.specs.Prelude.{◌≡◌, ◌++◌, ◌<◌, ◌^◌, IfOk, OnOk, length, string_bytes, option_copied};
-ghost use Rattle.std.specs.List.{flat_map};
 ghost use Rattle.cd_sock.specs.Framing.{HasPlainNames, IsFramed};
-ghost use Rattle.cd_sock.specs.Replies.{fault_text, flushed_line, with_newline, rate_line, rate_lines, rate_or_nan, reply_text, row_line, values_found};
+ghost use Rattle.cd_sock.specs.Replies.{fault_text, flushed_line, rate_line, rate_lines, rate_or_nan, reply_text};
+ghost use Rattle.cd_sock.specs.Replies.{row_line, values_found, with_newline};
+ghost use Rattle.std.specs.List.{flat_map};
+ghost use Rattle.std.specs.Prelude.{IfOk, OnOk, length, option_copied, string_bytes, ◌++◌, ◌<◌, ◌^◌, ◌≡◌};
 
 use crate::LineFault;
 use cd_value::{Memory, Names, Rate, Rates, Rows, SECOND, Text};

@@ -1,8 +1,10 @@
 //! The value words of PUTVAL.
-ghost use Rattle.std.specs.Prelude.{◌≡◌, ◌==◌, ◌∷◌, IfOk, Some, None, count_by, slice_index, option_copied, if◌then◌else◌};
-ghost use Rattle.std.specs.List.{before_first, slice_split};
 ghost use Rattle.cd_sock.specs.Meaning.{list_of};
-ghost use Rattle.cd_sock.specs.Values.{change_of, count_of, has_count, has_time, is_colon, is_unknown, is_whole, level_of, texts_in, time_at, value_of, values_in};
+ghost use Rattle.cd_sock.specs.Values.{change_of, count_of, has_count, has_time, is_colon, is_unknown, is_whole};
+ghost use Rattle.cd_sock.specs.Values.{level_of, texts_in, time_at, value_of, values_in};
+ghost use Rattle.std.specs.List.{before_first, slice_split};
+ghost use Rattle.std.specs.Prelude.{IfOk, None, Some, count_by, if◌then◌else◌, option_copied, slice_index, ◌==◌, ◌∷◌};
+ghost use Rattle.std.specs.Prelude.{◌≡◌};
 
 use crate::arguments::is_keyword;
 use cd_text::{Word, read_millionths, read_time};

@@ -1,22 +1,22 @@
 -- The rules of a run allow one history alone.
-use Rattle.std.proofs.Common.{◌≡◌, ◌<◌, ◌≤◌, ℕ, Bool, true, false, not, ◌&&◌, nat_le, is_some, IsTrue, List, [], ◌∷◌, ◌++◌, length, map, Option, None, Some, Ok, refl, sym, ap, ◌∙◌, subst, append_assoc, arith}
-use Rattle.std.proofs.lemmas.List.{append-nil}
-use Rattle.std.proofs.lemmas.Bool.{leb-true}
-use Rattle.cd_value.specs.declared.data.ValueList.{ValueList}
-use Rattle.cd_value.specs.Identifier.{Fields, name_of}
+use Rattle.cd_daemon.specs.Answers.{accept_answer, handle_answer, is_idle, next_call, query_answer, ready}
+use Rattle.cd_daemon.specs.declared.Opening.{Opening}
+use Rattle.cd_history.specs.History.{History, handles, kept, ◌▸◌}
+use Rattle.cd_history.specs.Registrations.{live}
+use Rattle.cd_history.specs.declared.entry.Entry.TheVariants as entry
+use Rattle.cd_history.specs.declared.entry.Why.TheVariants as why
+use Rattle.cd_history.specs.declared.given.Given.TheVariants.{Answered, Now, Word}
+use Rattle.cd_history.specs.declared.given.Given.{Given}
 use Rattle.cd_registry.specs.declared.calls.Answer.{Answer}
 use Rattle.cd_registry.specs.declared.calls.Call.{Call}
 use Rattle.cd_sock.specs.declared.command.Command.TheVariants as command
-use Rattle.cd_history.specs.declared.entry.Entry.TheVariants as entry
-use Rattle.cd_history.specs.declared.entry.Why.TheVariants as why
-use Rattle.cd_history.specs.declared.given.Given.{Given}
-use Rattle.cd_history.specs.declared.given.Given.TheVariants.{Now, Word, Answered}
-use Rattle.cd_history.specs.History.{History, ◌▸◌, handles, kept}
-use Rattle.cd_history.specs.Registrations.{live}
-use Rattle.cd_daemon.specs.declared.Opening.{Opening}
-use Rattle.cd_daemon.specs.Answers.{accept_answer, handle_answer, query_answer, ready, next_call, is_idle}
+use Rattle.cd_transcript.specs.LineRuns.{IsAsked, IsLineRun, OnShelf, Opens, ServesLine, ServesLines, Works, WorksUntilIdle, blank, called, closed, got, handled, listed, none, none as opened_all, nothing, one_more, plug_in, put, refused}
 use Rattle.cd_transcript.specs.Transcripts.{Said}
-use Rattle.cd_transcript.specs.LineRuns.{OnShelf, Opens, none as opened_all, plug_in, Works, nothing, called, handled, WorksUntilIdle, IsAsked, ServesLine, blank, refused, put, got, listed, ServesLines, none, one_more, closed, IsLineRun}
+use Rattle.cd_value.specs.Identifier.{Fields, name_of}
+use Rattle.cd_value.specs.declared.data.ValueList.{ValueList}
+use Rattle.std.proofs.Common.{Bool, IsTrue, List, None, Ok, Option, Some, [], ap, append_assoc, arith, false, is_some, length, map, nat_le, not, refl, subst, sym, true, ℕ, ◌&&◌, ◌++◌, ◌<◌, ◌∙◌, ◌∷◌, ◌≡◌, ◌≤◌}
+use Rattle.std.proofs.lemmas.Bool.{leb-true}
+use Rattle.std.proofs.lemmas.List.{append-nil}
 
 -- two lists that begin alike go on alike
 cancel : {A : Type 0} (xs ys zs : List A) → xs ++ ys ≡ xs ++ zs → ys ≡ zs

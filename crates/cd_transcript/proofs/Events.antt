@@ -1,24 +1,24 @@
 -- Which events of lines a run's parts leave, and what a line that was served writes.
-use Rattle.std.proofs.Common.{◌≡◌, ℕ, Bool, true, false, List, [], ◌∷◌, ◌++◌, None, Some, Result, Ok, Err, refl, sym, ◌∙◌, subst}
-use Rattle.std.proofs.lemmas.List.{append-nil, reverse-append}
-use Rattle.std.specs.List.{filter}
-use Rattle.cd_value.specs.declared.data.Offered.{Offered}
-use Rattle.cd_value.specs.declared.data.ValueList.{ValueList}
-use Rattle.cd_value.specs.Identifier.{Fields, name_of}
-use Rattle.cd_sock.specs.declared.command.Command.TheVariants as command
-use Rattle.cd_sock.specs.declared.fault.LineFault.{LineFault}
-use Rattle.cd_sock.specs.declared.reply.Reply.TheVariants as reply
-use Rattle.cd_sock.specs.Replies.{reply_text}
+use Rattle.cd_daemon.specs.declared.Opening.{Opening}
+use Rattle.cd_history.specs.History.{Event, History, ◌▸◌}
+use Rattle.cd_history.specs.Registrations.{Registration}
 use Rattle.cd_history.specs.declared.entry.Entry.TheVariants as entry
 use Rattle.cd_history.specs.declared.entry.Found.{Found}
 use Rattle.cd_history.specs.declared.entry.Stopping.{Stopping}
 use Rattle.cd_history.specs.declared.given.Given.{Given}
-use Rattle.cd_history.specs.History.{Event, History, ◌▸◌}
-use Rattle.cd_history.specs.Registrations.{Registration}
-use Rattle.cd_daemon.specs.declared.Opening.{Opening}
-use Rattle.cd_transcript.specs.Transcripts.{Said, is_of_a_line, of_lines, offered_reply, found_reply, IsTranscript, nothing, blank, refused, put, got, listed}
-use Rattle.cd_transcript.specs.LineRuns.{OnShelf, Opens, none, plug_in, Works, nothing as no_work, called, handled, closed}
-use Rattle.cd_transcript.proofs.Transcripts.{joined, as_text}
+use Rattle.cd_sock.specs.Replies.{reply_text}
+use Rattle.cd_sock.specs.declared.command.Command.TheVariants as command
+use Rattle.cd_sock.specs.declared.fault.LineFault.{LineFault}
+use Rattle.cd_sock.specs.declared.reply.Reply.TheVariants as reply
+use Rattle.cd_transcript.proofs.Transcripts.{as_text, joined}
+use Rattle.cd_transcript.specs.LineRuns.{OnShelf, Opens, Works, called, closed, handled, none, nothing as no_work, plug_in}
+use Rattle.cd_transcript.specs.Transcripts.{IsTranscript, Said, blank, found_reply, got, is_of_a_line, listed, nothing, of_lines, offered_reply, put, refused}
+use Rattle.cd_value.specs.Identifier.{Fields, name_of}
+use Rattle.cd_value.specs.declared.data.Offered.{Offered}
+use Rattle.cd_value.specs.declared.data.ValueList.{ValueList}
+use Rattle.std.proofs.Common.{Bool, Err, List, None, Ok, Result, Some, [], false, refl, subst, sym, true, ℕ, ◌++◌, ◌∙◌, ◌∷◌, ◌≡◌}
+use Rattle.std.proofs.lemmas.List.{append-nil, reverse-append}
+use Rattle.std.specs.List.{filter}
 
 -- work uses no line
 pub works-of_lines : {K : Opening} {Moment : ℕ → List Given → Type 0} {P Q : History} {given : List Given} → Works K Moment P given Q → of_lines Q ≡ of_lines P

@@ -1,3 +1,5 @@
 pub mod Transcripts
 pub mod Events
 pub mod Determined
+mod Steady
+mod WorkedTranscripts

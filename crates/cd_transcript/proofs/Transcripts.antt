@@ -1,17 +1,17 @@
 -- Transcripts go on, and lines and events have one alone.
-use Rattle.std.proofs.Common.{◌≡◌, ℕ, Bool, List, ◌∷◌, ◌++◌, None, Some, Result, Ok, Err, refl, sym, ap, ◌∙◌, subst, append_assoc}
-use Rattle.cd_value.specs.declared.data.Offered.{Offered}
-use Rattle.cd_value.specs.declared.data.ValueList.{ValueList}
-use Rattle.cd_value.specs.Identifier.{Fields, name_of}
-use Rattle.cd_sock.specs.declared.command.Command.TheVariants as command
-use Rattle.cd_sock.specs.declared.fault.LineFault.{LineFault}
-use Rattle.cd_sock.specs.declared.reply.Reply.TheVariants as reply
-use Rattle.cd_sock.specs.Replies.{reply_text}
+use Rattle.cd_history.specs.History.{Event}
 use Rattle.cd_history.specs.declared.entry.Entry.TheVariants as entry
 use Rattle.cd_history.specs.declared.entry.Found.{Found}
 use Rattle.cd_history.specs.declared.entry.Stopping.{Stopping}
-use Rattle.cd_history.specs.History.{Event}
-use Rattle.cd_transcript.specs.Transcripts.{Said, offered_reply, found_reply, IsTranscript, nothing, looked, blank, refused, put, got, listed}
+use Rattle.cd_sock.specs.Replies.{reply_text}
+use Rattle.cd_sock.specs.declared.command.Command.TheVariants as command
+use Rattle.cd_sock.specs.declared.fault.LineFault.{LineFault}
+use Rattle.cd_sock.specs.declared.reply.Reply.TheVariants as reply
+use Rattle.cd_transcript.specs.Transcripts.{IsTranscript, Said, blank, found_reply, got, listed, looked, nothing, offered_reply, put, refused}
+use Rattle.cd_value.specs.Identifier.{Fields, name_of}
+use Rattle.cd_value.specs.declared.data.Offered.{Offered}
+use Rattle.cd_value.specs.declared.data.ValueList.{ValueList}
+use Rattle.std.proofs.Common.{Bool, Err, List, None, Ok, Result, Some, ap, append_assoc, refl, subst, sym, ℕ, ◌++◌, ◌∙◌, ◌∷◌, ◌≡◌}
 
 module _ {Line : Type 0} (says : Line → ℕ → Said) where
   pub as_text : {lines : List Line} {events : List Event} {text other : List ℕ} → IsTranscript says lines events text → text ≡ other → IsTranscript says lines events other

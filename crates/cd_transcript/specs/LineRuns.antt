@@ -1,26 +1,26 @@
 -- The history of a run over lines on one thread, by the rules of its making: which events come, and what each took of
 -- what the clock, the dice and the plug-ins gave.
-use Rattle.std.specs.Prelude.{◌≡◌, ℕ, ◌<◌, IsTrue, List, [], ◌∷◌, ◌++◌, map, length, None, Some, Ok, Err}
-use Rattle.cd_value.specs.declared.data.ValueList.{ValueList}
-use Rattle.cd_value.specs.Identifier.{Fields, name_of}
+use Rattle.cd_daemon.specs.Answers.{accept_answer, close_answer, handle_answer, is_idle, next_call, query_answer, ready, register_answer, retire_answer}
+use Rattle.cd_daemon.specs.Calls.{answered_as}
+use Rattle.cd_daemon.specs.declared.Opening.{Opening}
+use Rattle.cd_history.specs.History.{Event, History, handles, kept, ◌▸◌}
+use Rattle.cd_history.specs.Registrations.{Registration, live}
+use Rattle.cd_history.specs.declared.entry.Entry.TheVariants as entry
+use Rattle.cd_history.specs.declared.entry.Joining.TheVariants as joining
+use Rattle.cd_history.specs.declared.entry.Why.TheVariants as why
+use Rattle.cd_history.specs.declared.given.Given.TheVariants.{Answered, Now, Word}
+use Rattle.cd_history.specs.declared.given.Given.{Given}
+use Rattle.cd_registry.specs.Told.{told_after_all}
 use Rattle.cd_registry.specs.declared.calls.Answer.{Answer}
 use Rattle.cd_registry.specs.declared.calls.Call.{Call}
 use Rattle.cd_registry.specs.declared.kinds.Kinds.{Kinds}
 use Rattle.cd_registry.specs.declared.plug.PlugTells.{PlugTells}
-use Rattle.cd_registry.specs.Told.{told_after_all}
-use Rattle.cd_history.specs.declared.entry.Entry.TheVariants as entry
-use Rattle.cd_history.specs.declared.entry.Joining.TheVariants as joining
-use Rattle.cd_history.specs.declared.entry.Why.TheVariants as why
-use Rattle.cd_history.specs.declared.given.Given.{Given}
-use Rattle.cd_history.specs.declared.given.Given.TheVariants.{Now, Word, Answered}
-use Rattle.cd_history.specs.History.{Event, History, ◌▸◌, handles, kept}
-use Rattle.cd_history.specs.Registrations.{Registration, live}
-use Rattle.cd_daemon.specs.Answers.{register_answer, close_answer, retire_answer, accept_answer, handle_answer, query_answer, ready, next_call, is_idle}
-use Rattle.cd_daemon.specs.Calls.{answered_as}
-use Rattle.cd_daemon.specs.declared.Opening.{Opening}
 use Rattle.cd_sock.specs.declared.command.Command.TheVariants as command
 use Rattle.cd_sock.specs.declared.fault.LineFault.{LineFault}
 use Rattle.cd_transcript.specs.Transcripts.{Said}
+use Rattle.cd_value.specs.Identifier.{Fields, name_of}
+use Rattle.cd_value.specs.declared.data.ValueList.{ValueList}
+use Rattle.std.specs.Prelude.{Err, IsTrue, List, None, Ok, Some, [], length, map, ℕ, ◌++◌, ◌<◌, ◌∷◌, ◌≡◌}
 
 -- a plug-in on a shelf: its name, its kinds and what it tells
 pub record OnShelf : Type 0 where

@@ -1,26 +1,25 @@
 -- What is written for lines and the events that they use.
-use Rattle.std.specs.Prelude.{◌≡◌, ℕ, Bool, true, false, List, [], ◌∷◌, ◌++◌, None, Some, Result, Ok, Err}
-use Rattle.std.specs.List.{filter}
-use Rattle.cd_value.specs.declared.data.Offered.{Offered}
-use Rattle.cd_value.specs.declared.data.ValueList.{ValueList}
-use Rattle.cd_value.specs.Identifier.{Fields, name_of}
-use Rattle.cd_sock.specs.declared.command.Command.{Command}
-use Rattle.cd_sock.specs.declared.command.Command.TheVariants as command
-use Rattle.cd_sock.specs.declared.fault.LineFault.{LineFault}
-use Rattle.cd_sock.specs.declared.fault.LineFault.TheVariants.{LineTooLong}
-use Rattle.cd_sock.specs.Lines.{Cut}
-use Rattle.cd_sock.specs.Meaning.{meaning}
-use Rattle.cd_sock.specs.declared.reply.Reply.{Reply}
-use Rattle.cd_sock.specs.declared.reply.Reply.TheVariants as reply
-use Rattle.cd_sock.specs.Replies.{reply_text}
-use Rattle.cd_history.specs.declared.entry.Entry.TheVariants as entry
-use Rattle.cd_history.specs.declared.entry.Found.{Found}
-use Rattle.cd_history.specs.declared.entry.Found.TheVariants as found
-use Rattle.cd_history.specs.declared.entry.Stopping.{Stopping}
+use Rattle.cd_daemon.specs.declared.Opening.{Opening}
 use Rattle.cd_history.specs.History.{Event, History}
 use Rattle.cd_history.specs.Order.{history_of}
-use Rattle.cd_daemon.specs.declared.Opening.{Opening}
-use Rattle.cd_daemon.specs.declared.TheConstants.{INTERVAL}
+use Rattle.cd_history.specs.declared.entry.Entry.TheVariants as entry
+use Rattle.cd_history.specs.declared.entry.Found.TheVariants as found
+use Rattle.cd_history.specs.declared.entry.Found.{Found}
+use Rattle.cd_history.specs.declared.entry.Stopping.{Stopping}
+use Rattle.cd_sock.specs.Lines.{Cut}
+use Rattle.cd_sock.specs.Meaning.{meaning}
+use Rattle.cd_sock.specs.Replies.{reply_text}
+use Rattle.cd_sock.specs.declared.command.Command.TheVariants as command
+use Rattle.cd_sock.specs.declared.command.Command.{Command}
+use Rattle.cd_sock.specs.declared.fault.LineFault.TheVariants.{LineTooLong}
+use Rattle.cd_sock.specs.declared.fault.LineFault.{LineFault}
+use Rattle.cd_sock.specs.declared.reply.Reply.TheVariants as reply
+use Rattle.cd_sock.specs.declared.reply.Reply.{Reply}
+use Rattle.cd_value.specs.Identifier.{Fields, name_of}
+use Rattle.cd_value.specs.declared.data.Offered.{Offered}
+use Rattle.cd_value.specs.declared.data.ValueList.{ValueList}
+use Rattle.std.specs.List.{filter}
+use Rattle.std.specs.Prelude.{Bool, Err, List, None, Ok, Result, Some, [], false, true, ℕ, ◌++◌, ◌∷◌, ◌≡◌}
 
 -- what a line says: a command, or why it is refused
 abbrev pub Said : Type 0
@@ -29,13 +28,26 @@ Said = Result Command LineFault
 -- what a line of the socket says at a moment to a daemon of that opening; one that is too long says just that
 abbrev pub line_says : Opening → Cut → ℕ → Said
 line_says K None now = Err LineTooLong
-line_says K (Some line) now = meaning K.types now INTERVAL line
+line_says K (Some line) now = meaning K.types now K.interval line
 
 -- the events that lines ask for
 abbrev pub is_of_a_line : Event → Bool
+is_of_a_line (entry.Register a name joining reply) = false
+is_of_a_line (entry.Close a name reply) = false
+is_of_a_line (entry.Retire a reg reply) = false
 is_of_a_line (entry.Accept a lists words now reply) = true
+is_of_a_line (entry.Handle a now reply) = false
+is_of_a_line (entry.Notify a note reply) = false
+is_of_a_line (entry.Tick a now reply) = false
 is_of_a_line (entry.Query a name reply) = true
-is_of_a_line _ = false
+is_of_a_line (entry.FlushOpen a request reply) = false
+is_of_a_line (entry.FlushClose a number reply) = false
+is_of_a_line (entry.Take a reg call) = false
+is_of_a_line (entry.Done a reg answer) = false
+is_of_a_line (entry.ReadDue a now reply) = false
+is_of_a_line (entry.ReadBack a reg now reading ok) = false
+is_of_a_line (entry.Stop a why) = false
+is_of_a_line (entry.Look a idle) = false
 
 -- those of a history, the oldest first
 abbrev pub of_lines : History → List Event

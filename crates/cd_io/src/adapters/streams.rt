@@ -1,6 +1,7 @@
 //! A reader and a writer as a link.
-ghost use Rattle.std.specs.Prelude.{◌≡◌, ◌≤◌, IfOk, length};
-ghost use Rattle.cd_io.specs.Link.{counts_alone};
+ghost use Rattle.std.specs.Prelude.{◌≡◌, ◌≤◌, ◌<◌, IfOk, length};
+ghost use Rattle.std.specs.Io.KnownBytes.{WriteAppends};
+ghost use Rattle.cd_io.specs.Link.{counts_alone, Says};
 
 use crate::{Failed, Heard, Link};
 use std::io::{self, ErrorKind, Read, Write};
@@ -11,7 +12,8 @@ use std::time::{Clock, Duration};
 /// How many milliseconds pass before a call that would block is tried again.
 const PAUSE: u64 = 1;
 
-/// A reader and a writer as a link, as standard input and standard output. What is said is flushed at once.
+/// A reader and a writer as a link, as standard input and standard output. The writer is to keep nothing back, as theirs,
+/// files and sockets don't: it isn't flushed, and the bytes that it took are said.
 ///
 /// A call that was interrupted is tried again, and so is one that would block, after a pause of a millisecond. A read
 /// that timed out is quiet; any other error is a fault.
@@ -39,6 +41,7 @@ impl<C: Clock + Send + Drop, R: Read + Send + Drop, W: Write + Send + Drop> Stre
     }
 }
 
+// The clauses of the trait, and what the writer holds, where it tells it.
 impl<C: Clock + Send + Drop, R: Read + Send + Drop, W: Write + Send + Drop> Link
     for Streams<C, R, W> {
     ghost link_tells = { λ l. counts_alone l.faults l.quiets };
@@ -55,7 +58,16 @@ impl<C: Clock + Send + Drop, R: Read + Send + Drop, W: Write + Send + Drop> Link
         }
     }
 
-    fn say(&mut self, text: &[u8]) -> Result<usize, Failed> {
+    fn say(&mut self, text: &[u8]) -> Result<usize, Failed>
+        ensures bound { IfOk result (λ n. n ≤ length text.now) }
+        ensures some { IfOk result (λ n. 0 < length text.now → 0 < n) }
+        ensures says { Says result text.now (counts_alone self.old.faults self.old.quiets)
+            (counts_alone self.new.faults self.new.quiets) }
+
+        // The writer took just the bytes that were said, and none in a call that failed.
+        ensures written { WriteAppends (W.contents self.old.writer) (W.contents self.new.writer)
+            result text.now }
+    {
         match write_some(&self.clock, &mut self.writer, text) {
             Ok(taken) if taken > 0 || text.is_empty() => Ok(taken),
             _ => Err(Failed::counted(&mut self.faults)),
@@ -88,27 +100,14 @@ fn read_some<C: Clock, R: Read>(clock: &C, reader: &mut R, buf: &mut [u8]) -> io
     Err(io::Error::from(ErrorKind::WouldBlock))
 }
 
-/// Writes the first bytes of a text, flushes them, and answers how many.
+/// Writes the first bytes of a text, and answers how many.
 fn write_some<C: Clock, W: Write>(clock: &C, writer: &mut W, text: &[u8]) -> io::Result<usize>
-    ensures { IfOk result (λ n. n ≤ length text.now) }
+    ensures bound { IfOk result (λ n. n ≤ length text.now) }
+    ensures written { WriteAppends (W.contents writer.old) (W.contents writer.new)
+        result text.now }
 {
     for _ in 0..u64::MAX {
         match writer.write(text) {
-            Ok(taken) => {
-                flush_all(clock, writer)?;
-                return Ok(taken);
-            }
-            Err(error) if is_passing(clock, &error) => {}
-            Err(error) => return Err(error),
-        }
-    }
-    Err(io::Error::from(ErrorKind::WouldBlock))
-}
-
-/// Flushes what was written.
-fn flush_all<C: Clock, W: Write>(clock: &C, writer: &mut W) -> io::Result<()> {
-    for _ in 0..u64::MAX {
-        match writer.flush() {
             Err(error) if is_passing(clock, &error) => {}
             answer => return answer,
         }

@@ -1,5 +1,5 @@
 //! The real world.
-ghost use Rattle.std.specs.Prelude.{None};
+ghost use Rattle.std.specs.Prelude.{◌≡◌, None};
 
 use crate::{Clock, OutFault, ReaderSource, RealClock, RealDice, World};
 use std::io::ErrorKind;
@@ -15,9 +15,12 @@ pub struct RealWorld<R> {
     reading_faults: u64,
 }
 
-impl<R> RealWorld<R> {
+impl<R: Files + time::Clock + Copy + Send + Drop> RealWorld<R> {
     /// The world of a runtime.
-    pub fn new(rt: R) -> Self {
+    pub fn new(rt: R) -> Self
+        ensures { ⟦<RealWorld<R> as World>⟧.world_tells result
+            ≡ record { files = None; faults = 0; reading_faults = 0 } }
+    {
         RealWorld {
             rt,
             faults: 0,

@@ -1,5 +1,5 @@
 //! Files in memory.
-ghost use Rattle.std.specs.Prelude.{◌≡◌, ◌≤◌, [], ◌∷◌, length, map, IfOk};
+ghost use Rattle.std.specs.Prelude.{◌≡◌, ◌≤◌, [], ◌∷◌, length, map, IfOk, IfSome, IsSome, OnErr};
 ghost use Rattle.std.specs.List.{slice_get};
 ghost use Rattle.std.specs.Option.{option_map};
 ghost use Rattle.std.specs.Str.{bytes_eq};
@@ -19,8 +19,8 @@ pub struct MemFile {
 }
 
 impl MemFile {
-    ghost use Rattle.cd_io.specs.MemFile.{shown};
-    ghost use Rattle.cd_io.specs.MemSource.{told_first};
+    ghost use Rattle.cd_io.specs.MemFile.{plan_of, shown};
+    ghost use Rattle.cd_io.specs.MemSource.{BeginsBy, no_plan, plan_tells, told_first};
     ghost use Rattle.cd_io.specs.World.{later};
 
     /// The file of a path with these texts.
@@ -30,8 +30,9 @@ impl MemFile {
         texts: Vec<Vec<u8>>,
         plan: SourcePlan,
     ) -> Result<Self, AllocError>
-        ensures { IfOk result (λ file.
+        ensures shown { IfOk result (λ file.
             shown file ≡ record { path = path.now; texts = map (λ v. v.items) texts.items }) }
+        ensures plan { IfOk result (λ file. plan_of file ≡ plan_tells plan) }
     {
         Ok(MemFile {
             path: String::from_str(alloc, path)?,
@@ -41,10 +42,11 @@ impl MemFile {
         })
     }
 
-    /// The file of a path with one text.
+    /// The file of a path with one text, whose readings all go through.
     pub fn of(alloc: Global, path: &str, text: &[u8]) -> Result<Self, AllocError>
-        ensures { IfOk result (λ file.
+        ensures shown { IfOk result (λ file.
             shown file ≡ record { path = path.now; texts = text.now ∷ [] }) }
+        ensures plan { IfOk result (λ file. plan_of file ≡ no_plan) }
     {
         let mut texts = Vec::new(alloc);
         texts.push(text.to_vec(alloc)?)?;
@@ -60,8 +62,10 @@ impl MemFile {
 
     /// A source of the text of the next opening, where there is one.
     pub(crate) fn source(&self, alloc: Global) -> Result<Option<MemSource>, AllocError>
-        ensures { IfOk result (λ found. option_map ⟦<MemSource as Source>⟧.source_tells found
+        ensures found { IfOk result (λ found. option_map ⟦<MemSource as Source>⟧.source_tells found
             ≡ option_map told_first (slice_get (shown self.now).texts 0)) }
+        ensures begins { IfOk result (λ found. IfSome found (BeginsBy (plan_of self.now))) }
+        ensures lacking { OnErr result (IsSome (slice_get (shown self.now).texts 0)) }
     {
         match self.texts.get(self.opened) {
             Some(text) => {
@@ -74,7 +78,8 @@ impl MemFile {
 
     /// Goes on to the text of the opening after the next, where there is one.
     pub(crate) fn advance(&mut self)
-        ensures { shown self.new ≡ later (shown self.old) }
+        ensures shown { shown self.new ≡ later (shown self.old) }
+        ensures plan { plan_of self.new ≡ plan_of self.old }
     {
         if self.texts.len() - self.opened > 1 {
             self.opened += 1;

@@ -15,6 +15,8 @@ pub struct SourcePlan {
 }
 
 impl SourcePlan {
+    ghost use Rattle.cd_io.specs.MemSource.{plan_tells};
+
     /// No call fails, and each gives what the buffer holds.
     pub fn new(alloc: Global) -> Self
         ensures failing_reads { result.failing_reads.items ≡ [] }
@@ -28,9 +30,7 @@ impl SourcePlan {
 
     /// The same plan again.
     pub(crate) fn copy(&self, alloc: Global) -> Result<Self, AllocError>
-        ensures failing_reads { IfOk result (λ plan.
-            plan.failing_reads.items ≡ self.now.failing_reads.items) }
-        ensures piece_limit { IfOk result (λ plan. plan.piece_limit ≡ self.now.piece_limit) }
+        ensures { IfOk result (λ plan. plan_tells plan ≡ plan_tells self.now) }
     {
         Ok(SourcePlan {
             failing_reads: self.failing_reads.to_vec(alloc)?,

@@ -1,11 +1,11 @@
 //! A world in memory.
-ghost use Rattle.std.specs.Prelude.{◌≡◌, ◌<◌, true, false, [], ◌∷◌, ◌++◌, length, map, Some, IfOk, IfSome, OnOk, OnErr};
+ghost use Rattle.std.specs.Prelude.{◌≡◌, ◌<◌, true, [], ◌∷◌, ◌++◌, length, map, Some, IfOk, IfSome, IsSome, OnOk, OnErr};
 ghost use Rattle.std.specs.List.{position};
 ghost use Rattle.std.specs.Option.{option_map};
 ghost use Rattle.std.specs.Str.{bytes_eq};
-ghost use Rattle.cd_io.specs.MemFile.{after_answer, shown};
-ghost use Rattle.cd_io.specs.MemSource.{told_first};
-ghost use Rattle.cd_io.specs.World.{is_failed, opening, Opens};
+ghost use Rattle.cd_io.specs.MemFile.{after_answer, plan_at, plan_of, shown};
+ghost use Rattle.cd_io.specs.MemSource.{BeginsBy, told_first};
+ghost use Rattle.cd_io.specs.World.{is_opening_fault, opening, Opens};
 
 use crate::{MemClock, MemDice, MemFile, MemSource, OutFault, Source, World};
 use std::alloc::{AllocError, Global};
@@ -24,7 +24,7 @@ pub struct MemWorld {
 }
 
 impl MemWorld {
-    ghost use Rattle.cd_io.specs.MemWorld.{calls_of, failing_of, files_of, tells_of};
+    ghost use Rattle.cd_io.specs.MemWorld.{calls_of, failing_of, files_of, plans_of, tells_of};
 
     /// A world without files, whose clocks and dice begin with these pairs, each of what comes next and the step.
     pub fn new(alloc: Global, clock_pair: (u64, u64), dice_pair: (u64, u64)) -> Self
@@ -33,6 +33,7 @@ impl MemWorld {
         ensures clock { ⟦<MemWorld as World>⟧.world_clock_pair result ≡ Some clock_pair }
         ensures dice { ⟦<MemWorld as World>⟧.world_dice_pair result ≡ Some dice_pair }
         ensures failing { failing_of result ≡ [] }
+        ensures plans { plans_of result ≡ [] }
         ensures calls { calls_of result ≡ 0 }
     {
         MemWorld {
@@ -51,6 +52,8 @@ impl MemWorld {
     pub fn add_file(&mut self, file: MemFile) -> Result<(), AllocError>
         ensures ok { OnOk result (files_of self.new ≡ files_of self.old ++ shown file ∷ []) }
         ensures err { OnErr result (files_of self.new ≡ files_of self.old) }
+        ensures plan { OnOk result (plans_of self.new ≡ plans_of self.old ++ plan_of file ∷ []) }
+        ensures plans { OnErr result (plans_of self.new ≡ plans_of self.old) }
         ensures faults { (tells_of self.new).faults ≡ (tells_of self.old).faults }
         ensures reading_faults { (tells_of self.new).reading_faults
             ≡ (tells_of self.old).reading_faults }
@@ -70,6 +73,7 @@ impl MemWorld {
         ensures ok { OnOk result (failing_of self.new ≡ failing_of self.old ++ number ∷ []) }
         ensures err { OnErr result (failing_of self.new ≡ failing_of self.old) }
         ensures tells { tells_of self.new ≡ tells_of self.old }
+        ensures plans { plans_of self.new ≡ plans_of self.old }
         ensures clock { ⟦<MemWorld as World>⟧.world_clock_pair self.new
             ≡ ⟦<MemWorld as World>⟧.world_clock_pair self.old }
         ensures dice { ⟦<MemWorld as World>⟧.world_dice_pair self.new
@@ -84,7 +88,7 @@ impl MemWorld {
 // The clauses of the trait, and that just the calls of the plan fail, and those of a path without a text.
 impl World for MemWorld {
     ghost use Rattle.cd_io.specs.MemLink.{next_number};
-    ghost use Rattle.cd_io.specs.MemWorld.{calls_of, failing_of, fails, tells_of};
+    ghost use Rattle.cd_io.specs.MemWorld.{calls_of, failing_of, fails, plan_for, plans_of, tells_of};
 
     type Src = MemSource;
 
@@ -105,8 +109,12 @@ impl World for MemWorld {
         ensures dice_pair { self.new.dice_pair ≡ self.old.dice_pair }
 
         // The plan and the files decide whether the call fails.
-        ensures fails { is_failed result ≡ true → fails self.old path.now ≡ true }
-        ensures goes_through { OnOk result (fails self.old path.now ≡ false) }
+        ensures fails { is_opening_fault result ≡ fails self.old path.now }
+
+        // The source goes by the plan of the path's file.
+        ensures begins { IfOk result (λ source.
+            IfSome (plan_for self.old path.now) (λ plan. BeginsBy plan source)) }
+        ensures plans { plans_of self.new ≡ plans_of self.old }
         ensures failing { failing_of self.new ≡ failing_of self.old }
         ensures calls_next { calls_of self.new ≡ next_number (calls_of self.old) }
     {
@@ -145,6 +153,10 @@ fn open_in(
 ) -> Result<Option<MemSource>, AllocError>
     ensures found { IfOk result (λ found. option_map ⟦<MemSource as Source>⟧.source_tells found
         ≡ option_map told_first (opening path.now (map shown files.old.items))) }
+    ensures begins { IfOk result (λ found. IfSome found (λ source.
+        IfSome (plan_at path.now files.old.items) (λ plan. BeginsBy plan source))) }
+    ensures lacking { OnErr result (IsSome (opening path.now (map shown files.old.items))) }
+    ensures plans { map plan_of files.new.items ≡ map plan_of files.old.items }
     ensures files { map shown files.new.items
         ≡ after_answer result path.now (map shown files.old.items) }
 {

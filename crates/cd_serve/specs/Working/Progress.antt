@@ -1,41 +1,42 @@
 -- How far a run over lines has come.
-use Rattle.std.specs.Prelude.{◌≡◌, ◌⊎◌, ◌&&◌, not, ℕ, Bool, false, List, [], ◌∷◌, ◌++◌, length, map, Ok}
-use Rattle.cd_value.specs.declared.data.DataSet.{DataSet}
-use Rattle.cd_value.specs.declared.data.ValueList.{ValueList}
-use Rattle.cd_cache.specs.Cache.{CacheMap}
-use Rattle.cd_sock.specs.declared.command.Command.{Command}
-use Rattle.cd_sock.specs.declared.command.Command.TheVariants as command
-use Rattle.cd_sock.specs.declared.reply.Reply.{Reply}
-use Rattle.cd_sock.specs.declared.reply.Reply.TheVariants as replies
-use Rattle.cd_sock.specs.Lines.{Cut}
-use Rattle.cd_cache.specs.Cache.{cached, empty}
+use Rattle.cd_cache.specs.Cache.{CacheMap, cached, empty}
 use Rattle.cd_cache.specs.Rows.{rows_of}
-use Rattle.cd_value.specs.Identifier.{name_of}
-use Rattle.cd_daemon.specs.Answers.{found_in, is_reserved}
-use Rattle.cd_sock.specs.Meaning.{meaning}
+use Rattle.cd_daemon.specs.Answers.{found_in}
+use Rattle.cd_daemon.specs.Handling.{stored}
+use Rattle.cd_daemon.specs.declared.Opening.{Opening}
+use Rattle.cd_daemon.specs.declared.TheConstants.{INTERVAL, TIMEOUT}
+use Rattle.cd_history.specs.History.{History}
+use Rattle.cd_history.specs.Registrations.{has_kind}
+use Rattle.cd_history.specs.declared.given.Given.TheVariants.{Answered, Now, Word}
+use Rattle.cd_history.specs.declared.given.Given.{Given}
 use Rattle.cd_io.specs.Told.{dice_after}
+use Rattle.cd_registry.specs.Faults.{is_reserved}
 use Rattle.cd_registry.specs.declared.calls.Answer.{Answer}
 use Rattle.cd_registry.specs.declared.calls.Call.{Call}
-use Rattle.cd_daemon.specs.Handling.{stored}
-use Rattle.cd_serve.specs.declared.daemon.Daemon.{Daemon}
-use Rattle.cd_serve.specs.Shelf.{places}
 use Rattle.cd_registry.specs.declared.kinds.TheConstants.Kinds.{WRITE}
-use Rattle.cd_history.specs.Registrations.{has_kind}
-use Rattle.cd_types.specs.Types.{builtin}
-use Rattle.cd_history.specs.declared.given.Given.{Given}
-use Rattle.cd_history.specs.declared.given.Given.TheVariants.{Now, Word, Answered}
-use Rattle.cd_history.specs.History.{History}
-use Rattle.cd_daemon.specs.declared.Opening.{Opening}
-use Rattle.cd_daemon.specs.declared.TheConstants.{TIMEOUT}
-use Rattle.cd_transcript.specs.Transcripts.{line_says, IsTranscript, of_lines, found_reply}
-use Rattle.cd_transcript.specs.LineRuns.{OnShelf, Opens, Works, IsAsked, ServesLines}
+use Rattle.cd_serve.specs.Shelf.{places}
+use Rattle.cd_serve.specs.Tells.{Pairs}
+use Rattle.cd_serve.specs.Working.Outside.{GaveAllUpTo, GaveUpTo, after_moment, after_word, called_first}
 use Rattle.cd_serve.specs.Working.Standing.{RunsOn, registration_of}
-use Rattle.cd_serve.specs.Working.Outside.{after_moment, after_word, called_first}
-use Rattle.cd_serve.specs.Tells.{Pairs, Gave, GaveAll}
+use Rattle.cd_serve.specs.declared.daemon.Daemon.{Daemon}
+use Rattle.cd_sock.specs.Lines.{Cut}
+use Rattle.cd_sock.specs.Meaning.{meaning}
+use Rattle.cd_sock.specs.declared.command.Command.TheVariants as command
+use Rattle.cd_sock.specs.declared.command.Command.{Command}
+use Rattle.cd_sock.specs.declared.reply.Reply.TheVariants as replies
+use Rattle.cd_sock.specs.declared.reply.Reply.{Reply}
+use Rattle.cd_transcript.specs.LineRuns.{IsAsked, OnShelf, Opens, ServesLines, Works}
+use Rattle.cd_transcript.specs.Transcripts.{IsTranscript, found_reply, line_says, of_lines}
+use Rattle.cd_types.specs.Types.{builtin}
+use Rattle.cd_value.specs.Identifier.{name_of}
+use Rattle.cd_value.specs.declared.data.DataSet.{DataSet}
+use Rattle.cd_value.specs.declared.data.ValueList.{ValueList}
+use Rattle.std.specs.Prelude.{Bool, List, Ok, [], false, length, map, not, ℕ, ◌&&◌, ◌++◌, ◌∷◌, ◌≡◌, ◌⊎◌}
 
 -- what is seen of a daemon
 pub record Seen : Type 0 where
   pub types : List DataSet
+  pub interval : ℕ
   pub shelf : List OnShelf
   pub writer : Bool
   pub cache : CacheMap
@@ -43,33 +44,36 @@ pub record Seen : Type 0 where
   pub pairs : Pairs
 
 abbrev pub opening_of : Seen → Opening
-opening_of seen = record { types = seen.types }
+opening_of seen = record { types = seen.types; interval = seen.interval; timeout = seen.cache.timeout }
 
 -- a daemon that began like this has served these lines, and this text was written
 pub record HasServed (begun : Seen) (lines : List Cut) (text : List ℕ) (seen : Seen) : Type 0 where
   pub opened : History
   pub past : History
   pub types : seen.types ≡ begun.types
+  pub interval : seen.interval ≡ begun.interval
   pub runs : RunsOn (opening_of begun) begun.shelf seen.shelf seen.writer [] seen.cache past
   pub opens : Opens begun.shelf [] [] opened
   pub serves : ServesLines (opening_of begun) (line_says (opening_of begun)) lines opened seen.given past
   pub written : IsTranscript (line_says (opening_of begun)) lines (of_lines past) text
-  pub gave : GaveAll begun.pairs seen.pairs seen.given
+  pub gave : GaveAllUpTo begun.pairs seen.pairs seen.given
 
 -- it works from a history on, and these lists are queued
 pub record IsWorking (begun : Seen) (start : History) (before : List Given) (queue : List ValueList) (seen : Seen) : Type 0 where
   pub past : History
   pub types : seen.types ≡ begun.types
+  pub interval : seen.interval ≡ begun.interval
   pub runs : RunsOn (opening_of begun) begun.shelf seen.shelf seen.writer queue seen.cache past
   pub given : List Given
   pub follows : seen.given ≡ before ++ given
   pub works : Works (opening_of begun) IsAsked start given past
-  pub gave : GaveAll begun.pairs seen.pairs seen.given
+  pub gave : GaveAllUpTo begun.pairs seen.pairs seen.given
 
 -- what is seen of a daemon, where these say what its outside tells
 abbrev pub seen_of : {O : Type 0} → (O → Pairs) → (O → List OnShelf) → Daemon O → Seen
 seen_of pairs shelf daemon = record {
   types = daemon.types;
+  interval = daemon.interval;
   shelf = shelf daemon.outside;
   writer = daemon.writer;
   cache = daemon.cache;
@@ -95,12 +99,12 @@ with_word word seen = record seen {
 pub record Rolled (count : ℕ) (old new : Seen) : Type 0 where
   pub words : List ℕ
   pub many : length words ≡ count
-  pub gave : Gave dice_after old.pairs.dice words new.pairs.dice
+  pub gave : GaveUpTo dice_after old.pairs.dice words new.pairs.dice
   pub seen : new ≡ record old { given = old.given ++ map Word words; pairs = record { clock = old.pairs.clock; dice = new.pairs.dice } }
 
 -- after a list came to the cache at a moment
 abbrev pub with_list : ValueList → ℕ → Seen → Seen
-with_list list now seen = record seen { cache = stored (opening_of seen) list now seen.cache }
+with_list list now seen = record seen { cache = stored seen.types list now seen.cache }
 
 -- after the first plug-in was called and gave that answer
 abbrev pub with_answer : Call → Answer → Seen → Seen
@@ -110,17 +114,27 @@ with_answer call answer seen = record seen { shelf = called_first call answer se
 abbrev pub WasCalled : Call → Seen → Seen → Type 0
 WasCalled call old new = ((old.shelf ≡ []) × (new ≡ old)) ⊎ ((answer : Answer) × (new ≡ with_answer call answer old))
 
+-- the first list of the queue was handled
+abbrev pub HandlesOne : ValueList → Seen → Seen → Type 0
+HandlesOne list old new = (begun : Seen) (start : History) (before : List Given) (queue : List ValueList)
+    → IsWorking begun start before (list ∷ queue) old → IsWorking begun start before queue new
+
+-- all lists of the queue were handled
+abbrev pub HandlesAll : List ValueList → Seen → Seen → Type 0
+HandlesAll lists old new = (begun : Seen) (start : History) (before : List Given)
+    → IsWorking begun start before lists old → IsWorking begun start before [] new
+
 -- lists were accepted, after a word for each, and handled
 pub record Puts (lists : List ValueList) (old new : Seen) : Type 0 where
   pub mid : Seen
   pub rolled : Rolled (length lists) old mid
-  pub works : (begun : Seen) (start : History) (before : List Given) → IsWorking begun start before lists mid → IsWorking begun start before [] new
+  pub works : HandlesAll lists mid new
 
 -- a command was carried out, and has this reply
 abbrev pub Obeys : Command → Reply → Seen → Seen → Type 0
 Obeys command.Blank reply old new = Unit {0}
 Obeys (command.PutVal lists) reply old new = (reply ≡ replies.Success) × Puts lists old new
-Obeys (command.GetVal id) reply old new = (new ≡ old) × (reply ≡ found_reply (found_in (opening_of old) (cached (name_of id) old.cache)))
+Obeys (command.GetVal id) reply old new = (new ≡ old) × (reply ≡ found_reply (found_in old.types (cached (name_of id) old.cache)))
 Obeys command.ListVal reply old new = (new ≡ old) × (reply ≡ replies.Listed (rows_of old.cache))
 
 -- a line was served with this reply
@@ -147,4 +161,12 @@ writes_first (plug ∷ plugs) = not (is_reserved plug.name) && has_kind WRITE (r
 
 -- a daemon before the first line
 abbrev pub opened : List OnShelf → Pairs → Seen
-opened shelf pairs = record { types = builtin; shelf = shelf; writer = writes_first shelf; cache = empty TIMEOUT; given = []; pairs = pairs }
+opened shelf pairs = record {
+  types = builtin;
+  interval = INTERVAL;
+  shelf = shelf;
+  writer = writes_first shelf;
+  cache = empty TIMEOUT;
+  given = [];
+  pairs = pairs;
+}

@@ -1,18 +1,17 @@
 -- A daemon whose objects are all at home, and for which no call waits.
-use Rattle.std.specs.Prelude.{◌≡◌, ◌⊎◌, ℕ, Bool, true, false, List, [], ◌∷◌, ◌++◌, length, None}
-use Rattle.std.specs.List.{filter}
-use Rattle.cd_value.specs.declared.data.ValueList.{ValueList}
-use Rattle.cd_history.specs.History.{History, handles, is_stopped, kept}
-use Rattle.cd_registry.specs.declared.kinds.TheConstants.Kinds.{WRITE}
-use Rattle.cd_history.specs.Registrations.{Registration, registrations, is_closed, is_retired, is_plug, has_kind}
-use Rattle.cd_history.specs.Leases.{takes, answers_to, taken_by}
-use Rattle.cd_daemon.specs.declared.Opening.{Opening}
 use Rattle.cd_cache.specs.Cache.{CacheMap}
-use Rattle.cd_daemon.specs.Calls.{cache_after}
-use Rattle.cd_daemon.specs.Calls.{calls_to}
+use Rattle.cd_daemon.specs.Calls.{cache_after, calls_to}
 use Rattle.cd_daemon.specs.Legal.{IsLegal}
+use Rattle.cd_daemon.specs.declared.Opening.{Opening}
+use Rattle.cd_history.specs.History.{History, handles, is_stopped, kept}
+use Rattle.cd_history.specs.Leases.{answers_to, taken_by, takes}
+use Rattle.cd_history.specs.Registrations.{Registration, has_kind, is_closed, is_plug, is_retired, registrations}
 use Rattle.cd_history.specs.declared.entry.Joining.TheVariants as joining
+use Rattle.cd_registry.specs.declared.kinds.TheConstants.Kinds.{WRITE}
 use Rattle.cd_transcript.specs.LineRuns.{OnShelf, returned}
+use Rattle.cd_value.specs.declared.data.ValueList.{ValueList}
+use Rattle.std.specs.List.{filter}
+use Rattle.std.specs.Prelude.{Bool, List, None, [], false, length, true, ℕ, ◌++◌, ◌∷◌, ◌≡◌, ◌⊎◌}
 
 -- stopped or not, with these registrations, none of them closed, these lists in the queue and this cache
 pub record Standing (K : Opening) (stopped : Bool) (regs : List Registration) (queue : List ValueList) (cache : CacheMap) (P : History) : Type 0 where

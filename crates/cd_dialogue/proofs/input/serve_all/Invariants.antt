@@ -1,7 +1,7 @@
-use Rattle.std.proofs.Common.{◌≡◌, ◌+◌, List, ℕ, [], length}
-use Rattle.cd_sock.specs.Lines.{HasCut}
-use Rattle.cd_dialogue.specs.Dialogues.{WentOn}
 use Rattle.cd_dialogue.proofs.input.serve_all.Given as goal
+use Rattle.cd_dialogue.specs.Dialogues.{WentOn}
+use Rattle.cd_sock.specs.Lines.{HasCut}
+use Rattle.std.proofs.Common.{List, [], length, ℕ, ◌+◌, ◌≡◌}
 
 -- what was heard so far was taken
 abbrev pub invariant-loop-dialogue : goal.invariant-loop-dialogue

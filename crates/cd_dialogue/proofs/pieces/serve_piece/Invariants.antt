@@ -1,6 +1,6 @@
-use Rattle.std.proofs.Common.{◌≡◌, ◌++◌, List, ℕ, [], length}
-use Rattle.cd_dialogue.specs.Dialogues.{WentOn}
 use Rattle.cd_dialogue.proofs.pieces.serve_piece.Given as goal
+use Rattle.cd_dialogue.specs.Dialogues.{WentOn}
+use Rattle.std.proofs.Common.{List, [], length, ℕ, ◌++◌, ◌≡◌}
 
 -- what was taken of the piece, and the rest of it, are the piece
 abbrev pub invariant-loop-rest : goal.invariant-loop-rest

@@ -5,9 +5,9 @@ use Rattle.cd_registry.proofs.Ats.{found_live}
 use Rattle.cd_registry.proofs.registry_tests.post.Goals as goal
 
 pub reserve-requires-after_bounds : goal.reserve-requires-after_bounds
-reserve-requires-after_bounds g c κs within = found_live 1 c.args.name.now _ c.in_ok-reg.reg (sym c.find.ensures ∙ c.in_ok-reg.was)
+reserve-requires-after_bounds g c κs within = found_live 1 c.args.name.now _ c.in_ok-reg.reg (sym c.find.ensures.number ∙ c.in_ok-reg.was)
 
 pub post-requires-after_bounds : goal.post-requires-after_bounds
 post-requires-after_bounds g c κs within =
     let P : List Row → Type 0 = λ rows. At rows c.in_ok-reg.reg IsLive in
-    subst P (sym c.reserve.ensures.rows) (found_live 1 c.args.name.now _ c.in_ok-reg.reg (sym c.find.ensures ∙ c.in_ok-reg.was))
+    subst P (sym c.reserve.ensures.rows) (found_live 1 c.args.name.now _ c.in_ok-reg.reg (sym c.find.ensures.number ∙ c.in_ok-reg.was))

@@ -17,7 +17,7 @@ pub returns-in-Ok-clause-back : goal.returns-in-Ok-clause-back
 returns-in-Ok-clause-back g c =
     run_back _ _ _ (few_shown _ c.args.shelf.items c.requires.few) _
     (first_is _ _ _ _ c.in-Ok.ensures.ok (pairs_same _ _ _ _ _ c.clock-clock.ensures.begins c.dice-dice.ensures.begins c.clock-clock.ensures.dice_pair))
-    _ _ _ _ (λ old new keeps. keeps) _ c.serve_all-served.ensures
+    _ _ _ _ (λ line old new keeps. keeps) _ c.serve_all-served.ensures
 
 pub returns-in-Err-clause-promises : goal.returns-in-Err-clause-promises
-returns-in-Err-clause-promises g c = nothing_served _ _
+returns-in-Err-clause-promises g c = nothing_served _ _ _

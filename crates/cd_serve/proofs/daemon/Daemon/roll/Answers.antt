@@ -1,6 +1,6 @@
-use Rattle.std.proofs.Common.{refl, ◌∙◌}
-use Rattle.cd_serve.proofs.Working.{rolled_nothing, rolled_more}
+use Rattle.cd_serve.proofs.Working.{rolled_more, rolled_nothing}
 use Rattle.cd_serve.proofs.daemon.Daemon.roll.Goals as goal
+use Rattle.std.proofs.Common.{refl, ◌∙◌}
 
 pub loop-init : goal.loop-init
 loop-init g c = record { rolled = rolled_nothing _; back = refl }

@@ -1,7 +1,7 @@
-use Rattle.std.proofs.Common.{◌≡◌}
-use Rattle.cd_serve.specs.Shelf.{places}
-use Rattle.cd_serve.specs.Working.Progress.{seen_of, Rolled}
 use Rattle.cd_serve.proofs.daemon.Daemon.roll.Given as goal
+use Rattle.cd_serve.specs.Shelf.{places}
+use Rattle.cd_serve.specs.Working.Progress.{Rolled, seen_of}
+use Rattle.std.proofs.Common.{◌≡◌}
 
 abbrev pub invariant-loop : goal.invariant-loop
 invariant-loop g l = record {

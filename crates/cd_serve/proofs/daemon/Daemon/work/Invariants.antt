@@ -1,9 +1,9 @@
-use Rattle.std.proofs.Common.{◌≡◌, List}
-use Rattle.cd_history.specs.declared.given.Given.{Given}
 use Rattle.cd_history.specs.History.{History}
+use Rattle.cd_history.specs.declared.given.Given.{Given}
+use Rattle.cd_serve.proofs.daemon.Daemon.work.Given as goal
 use Rattle.cd_serve.specs.Shelf.{places}
 use Rattle.cd_serve.specs.Working.Progress.{IsWorking, Seen, seen_of}
-use Rattle.cd_serve.proofs.daemon.Daemon.work.Given as goal
+use Rattle.std.proofs.Common.{List, ◌≡◌}
 
 abbrev pub invariant-loop-list : goal.invariant-loop-list
 invariant-loop-list g l = record {

@@ -2,8 +2,8 @@ use Rattle.std.proofs.Common.{◌<◌, ◌-◌, ℕ, List, length, string_bytes,
 use Rattle.cd_io.proofs.Files.{later_dropped}
 use Rattle.cd_io.proofs.memory.file.MemFile.advance.Goals as goal
 
-pub returns-then-len-self-gt1 : goal.returns-then-len-self-gt1
-returns-then-len-self-gt1 c =
+pub returns-then-len-self-gt1-clause-shown : goal.returns-then-len-self-gt1-clause-shown
+returns-then-len-self-gt1-clause-shown c =
     let file = c.args.self.now in
     let more : 1 < length file.texts.items - file.opened = omega (arith, c.if-len-self-gt1.true, c.len.ensures) in
     ap (λ (texts : List (List ℕ)). record { path = string_bytes file.path; texts = texts })

@@ -1,0 +1,163 @@
+-- Histories worked by hand: what a one-thread daemon answers in them.
+use Rattle.cd_daemon.specs.Answers.{close_answer, handle_answer, is_idle, next_call, query_answer, ready, register_answer, retire_answer}
+use Rattle.cd_daemon.specs.Calls.{answered_as, calls_to}
+use Rattle.cd_daemon.specs.Legal.{Allowed, IsLegal}
+use Rattle.cd_daemon.specs.declared.Opening.{Opening}
+use Rattle.cd_history.specs.History.{History, is_stopped, ◌▸◌}
+use Rattle.cd_history.specs.Registrations.{live, live_number, registrations}
+use Rattle.cd_history.specs.declared.entry.Entry.TheVariants as entry
+use Rattle.cd_history.specs.declared.entry.Found.TheVariants as found
+use Rattle.cd_history.specs.declared.entry.How.TheVariants as how
+use Rattle.cd_history.specs.declared.entry.Joining.TheVariants.{Plug}
+use Rattle.cd_history.specs.declared.entry.Joining.{Joining}
+use Rattle.cd_history.specs.declared.entry.RegisterFault.TheVariants as refused
+use Rattle.cd_history.specs.declared.entry.Why.TheVariants as why
+use Rattle.cd_registry.specs.Faults.{is_reserved}
+use Rattle.cd_registry.specs.declared.calls.Answer.TheVariants as answers
+use Rattle.cd_registry.specs.declared.calls.AnsweredCall.{AnsweredCall}
+use Rattle.cd_registry.specs.declared.calls.Call.TheVariants as calls
+use Rattle.cd_registry.specs.declared.faults.RetireFault.TheVariants as held_back
+use Rattle.cd_types.specs.Types.{fits_set, single}
+use Rattle.cd_value.specs.declared.data.DsType.TheVariants as kinds
+use Rattle.cd_value.specs.declared.data.Offered.TheVariants.{Kept}
+use Rattle.cd_value.specs.declared.data.Rate.TheVariants.{Known}
+use Rattle.cd_value.specs.declared.data.Value.TheVariants.{Gauge}
+use Rattle.cd_value.specs.declared.data.ValueList.{ValueList}
+use Rattle.std.proofs.Common.{Err, List, None, Ok, Some, [], arith, codes, false, length, pos, refl, true, ℕ, ◌<◌, ◌∷◌, ◌≡◌}
+
+-- a daemon that knows gauges alone
+abbrev K : Opening
+K = record { types = single (codes "gauge") kinds.Gauge None ∷ []; interval = 10; timeout = 2 }
+
+-- a gauge of some millionths at a time
+abbrev gauge : ℕ → ℕ → ValueList
+gauge time level = record {
+  id = record { host = codes "h"; plugin = codes "p"; plugin_instance = []; type_name = codes "gauge"; type_instance = [] };
+  time = time;
+  interval = 10;
+  values = Gauge (Some (pos level)) ∷ [];
+}
+
+-- a plug-in that is called with lists
+abbrev writer : ℕ → Joining
+writer mark = Plug (record { 0 = 1 }) [] (record { mark = mark; calls = None })
+
+-- ---- two writers, and a list
+
+abbrev registered : History
+registered = [] ▸ entry.Register 0 (codes "a") (writer 0) (Ok 0) ▸ entry.Register 0 (codes "b") (writer 1) (Ok 1)
+
+abbrev accepted : History
+accepted = registered ▸ entry.Accept 0 (gauge 5 250000 ∷ []) (0 ∷ []) 9 (Ok (Kept ∷ []))
+
+abbrev handled : History
+handled = accepted ▸ entry.Handle 0 9 (record { how = how.Stored; skipped = 0 })
+
+-- actor 7 takes the call to the first one, which is closed meanwhile
+abbrev taken : History
+taken = handled ▸ entry.Take 7 0 (calls.Write (gauge 5 250000)) ▸ entry.Close 0 (codes "a") (Some 0)
+
+abbrev done : History
+done = taken ▸ entry.Done 7 0 answers.Done ▸ entry.Take 0 1 (calls.Write (gauge 5 250000)) ▸ entry.Done 0 1 answers.Done
+
+abbrev retired : History
+retired = done ▸ entry.Retire 0 0 (Ok tt) ▸ entry.Stop 0 why.ControlEnd
+
+all_legal : IsLegal K retired
+unfolding fits_set
+all_legal =
+    let one_waits : 0 < 1 = omega arith in
+    ((((((((((((tt, refl), refl), (refl, refl, refl)), (refl, one_waits)), (refl, refl)), refl), refl), (refl, refl)), refl), (refl, refl)), tt))
+
+-- registrations
+name_taken : register_answer registered (codes "b") ≡ Err (refused.NameTaken 1)
+name_taken = refl
+
+name_free_again : register_answer taken (codes "a") ≡ Ok 2
+name_free_again = refl
+
+name_reserved : register_answer [] (codes "network") ≡ Err refused.Reserved
+name_reserved = refl
+
+none_after_a_stop : register_answer retired (codes "c") ≡ Err refused.Stopping
+none_after_a_stop = refl
+
+module _ (P : History) (name : List ℕ) (goes_on : is_stopped P ≡ false) (is_free : is_reserved name ≡ false) (is_new : live_number name P ≡ None) where
+  last_of_the_table : length (live P) ≡ 255 → length (registrations P) ≡ 300 → register_answer P name ≡ Ok 300
+  last_of_the_table many all = rw (goes_on, is_free, is_new, many, all) refl
+
+  none_beyond_the_table : length (live P) ≡ 256 → register_answer P name ≡ Err refused.TableFull
+  none_beyond_the_table many = rw (goes_on, is_free, is_new, many) refl
+
+-- closing and handing out
+closes_the_first : close_answer handled (codes "a") ≡ Some 0
+closes_the_first = refl
+
+closes_no_more : close_answer taken (codes "a") ≡ None
+closes_no_more = refl
+
+not_closed : retire_answer K registered 0 ≡ Err held_back.NotRegistered
+not_closed = refl
+
+with_an_actor : retire_answer K taken 0 ≡ Err (held_back.Out 7)
+with_an_actor = refl
+
+call_waits : retire_answer K (handled ▸ entry.Close 0 (codes "a") (Some 0)) 0 ≡ Err (held_back.Pending 1)
+call_waits = refl
+
+home_again : retire_answer K (taken ▸ entry.Done 7 0 answers.Done) 0 ≡ Ok tt
+home_again = refl
+
+handed_out_once : retire_answer K retired 0 ≡ Err held_back.NotRegistered
+handed_out_once = refl
+
+-- the queue and the calls
+stored : handle_answer K accepted 9 ≡ record { how = how.Stored; skipped = 0 }
+stored = refl
+
+as_old : handle_answer K (handled ▸ entry.Accept 0 (gauge 5 1 ∷ []) (0 ∷ []) 9 (Ok (Kept ∷ []))) 9 ≡ record { how = how.Old; skipped = 0 }
+as_old = refl
+
+least_first : ready K handled ≡ Some 0
+least_first = refl
+
+other_while_out : ready K taken ≡ Some 1
+other_while_out = refl
+
+its_call : next_call K taken 1 ≡ Some (calls.Write (gauge 5 250000))
+its_call = refl
+
+none_left : next_call K done 1 ≡ None
+none_left = refl
+
+what_it_got : answered_as K (codes "b") done ≡ record { call = calls.Write (gauge 5 250000); answer = answers.Done } ∷ []
+what_it_got = refl
+
+nobody_else : calls_to K 2 done ≡ []
+nobody_else = refl
+
+-- idle
+at_first : is_idle K registered ≡ true
+at_first = refl
+
+not_with_a_list : is_idle K accepted ≡ false
+not_with_a_list = refl
+
+not_with_a_call : is_idle K taken ≡ false
+not_with_a_call = refl
+
+at_last : is_idle K done ≡ true
+at_last = refl
+
+not_said_before : Allowed K taken (entry.Look 0 true) → ⊥
+not_said_before may = let e : false ≡ true = may refl in cc
+
+-- queries
+its_rate : query_answer K done (Some (codes "h/p/gauge")) ≡ found.Got (codes "value" ∷ []) (Known (pos 250000) 1 ∷ [])
+its_rate = refl
+
+none_of_that_name : query_answer K done (Some (codes "h/p/gauge-x")) ≡ found.NoSuchValue
+none_of_that_name = refl
+
+all_rows : query_answer K done None ≡ found.Listed ((5, codes "h/p/gauge") ∷ [])
+all_rows = refl
