@@ -8,6 +8,7 @@ pub mod LineRuns
 pub mod Skips
 pub mod Texts
 pub mod Decimals
+pub mod OneTree
 pub mod TextFaults
 pub mod PrintedItems
 pub mod PrintedLines

@@ -1,5 +1,5 @@
 -- Lines, one after the other.
-use Rattle.std.proofs.Common.{◌≡◌, ℕ, suc, ◌==◌, ◌<◌, List, [], ◌∷◌, Bool, true, false, length, ◌≤◌, Result, Ok, Err, IsOk, IfOk, IfSome, Option, Some, None, if◌then◌else◌, refl, sym, ap, ◌∙◌, arith}
+use Rattle.std.proofs.Common.{◌≡◌, ℕ, suc, replicate, ◌==◌, ◌<◌, List, [], ◌∷◌, Bool, true, false, length, ◌≤◌, Result, Ok, Err, IsOk, IfOk, IfSome, Option, Some, None, if◌then◌else◌, refl, sym, ap, ◌∙◌, arith}
 use Rattle.cd_reading.specs.First.{◌>>=◌, unless}
 use Rattle.cd_reading.specs.Gives.{Gives, Refuses}
 use Rattle.cd_conf.specs.Characters.{after_run, front_run, may_stand}
@@ -11,6 +11,7 @@ use Rattle.cd_conf.specs.declared.limits.TheConstants.{FILE_LIMIT}
 use Rattle.std.specs.Str.{IsUtf8, chars, is_utf8}
 use Rattle.std.proofs.lemmas.Str.{is_utf8-from_IsUtf8}
 use Rattle.std.proofs.lemmas.Bool.{le-leb, lt-leb}
+use Rattle.std.proofs.lemmas.List.{length-replicate}
 use Rattle.cd_conf.specs.Pile.{Reads, Took, opens_in}
 use Rattle.cd_conf.specs.Position.{Position, at}
 use Rattle.cd_conf.specs.Repeated.{repeated}
@@ -188,10 +189,16 @@ long_text : (bytes : List ℕ) → FILE_LIMIT < length bytes → statements_of_t
 unfolding statements_of_text
 long_text bytes long = ap (λ (b : Bool). after_tests b (is_utf8 bytes) bytes) (lt-leb (length bytes) FILE_LIMIT long)
 
+-- a text that is longer than a number
+longer : (n : ℕ) → (bytes : List ℕ) × (n < length bytes)
+longer n = (replicate (suc n) 0, (let l = length-replicate {A = ℕ} (suc n) 0 in omega (arith, l)))
+
 -- what a source that wasn't read to its end leads to
 pub not_whole : {X : Type 0} (view : X → List Statement) (left : Option (List ℕ)) (why : ReadAllFault) → (why ≡ source.TooLong → IfSome left (λ bytes. FILE_LIMIT < length bytes))
-    → IfSome left (λ bytes. Gives view text_fault (Err (source_fault why)) (statements_of_text bytes))
-not_whole view None why h = tt
-not_whole view (Some bytes) source.Failed h = tt
-not_whole view (Some bytes) source.TooLong h = long_text bytes (h refl)
-not_whole view (Some bytes) source.Memory h = tt
+    → (text : List ℕ) × IfSome left (λ bytes. bytes ≡ text) × Gives view text_fault (Err (source_fault why)) (statements_of_text text)
+not_whole view None source.Failed h = ([], tt, tt)
+not_whole view None source.TooLong h = let some = longer FILE_LIMIT in (some.0, tt, long_text some.0 some.1)
+not_whole view None source.Memory h = ([], tt, tt)
+not_whole view (Some bytes) source.Failed h = (bytes, refl, tt)
+not_whole view (Some bytes) source.TooLong h = (bytes, refl, long_text bytes (h refl))
+not_whole view (Some bytes) source.Memory h = (bytes, refl, tt)

@@ -10,7 +10,7 @@ use Rattle.cd_conf.specs.declared.item.Arg.{Arg}
 use Rattle.cd_conf.specs.declared.item.Item.{Item}
 use Rattle.cd_conf.specs.declared.pile.OpenSection.{OpenSection}
 
-joined_all : (items : List Item) → joined (map statements_of items) ≡ statements_of_items items
+pub joined_all : (items : List Item) → joined (map statements_of items) ≡ statements_of_items items
 joined_all [] = refl
 joined_all (i ∷ items) = ap (λ (xs : List Statement). statements_of i ++ xs) (joined_all items)
 

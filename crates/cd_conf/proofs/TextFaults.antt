@@ -1,5 +1,5 @@
 -- No text has the fault of a source.
-use Rattle.std.proofs.Common.{◌≡◌, ◌==◌, ◌∷◌, [], ℕ, zero, suc, List, Bool, true, false, Result, Ok, Err, Option, Some, None, if◌then◌else◌, refl, sym, ap, subst, ◌∙◌, length}
+use Rattle.std.proofs.Common.{◌≡◌, ◌==◌, ◌∷◌, [], ℕ, zero, suc, List, Bool, true, false, Result, Ok, Err, IfErr, Option, Some, None, if◌then◌else◌, refl, sym, ap, subst, ◌∙◌, length}
 use Rattle.std.specs.Str.{chars, is_utf8, str_eq_ignore_ascii_case}
 use Rattle.std.specs.Str.Parse.{starts_with_minus, without_leading_sign}
 use Rattle.std.specs.Prelude.{nat_le, nat_lt}
@@ -172,3 +172,8 @@ of_source view (Ok x) read t h = h
 of_source view (Err f) read t h =
     let no = of_given view (Err f) read t h in
     subst (λ (b : Bool). Refuses (if b then None else conf_fault f) read) (sym no) h
+
+-- where no source failed, the line of its fault needs no proof
+pub no_source_line : {X : Type 0} (r : Result X ConfFault) → is_read_fault r ≡ false → IfErr r (λ fault. is_read_kind fault.kind ≡ true → fault.line ≡ 0)
+no_source_line (Ok x) unread = tt
+no_source_line (Err f) unread = λ failed. let never : true ≡ false = sym failed ∙ unread in absurd (cc never)

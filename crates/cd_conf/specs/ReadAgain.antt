@@ -2,7 +2,7 @@
 use Rattle.std.specs.Prelude.{◌≡◌, ◌≤◌, ℕ, ◌+◌, List, [], ◌∷◌, length, Ok}
 use Rattle.cd_conf.specs.Canonical.{items_text}
 use Rattle.cd_conf.specs.Statements.{End, OptionOf, StartOf, Statement, Stray, statements_of_text}
-use Rattle.cd_conf.specs.Tree.{statements_of_items}
+use Rattle.cd_conf.specs.Tree.{IsTreeOf, statements_of_items}
 use Rattle.cd_conf.specs.declared.item.Item.{Item}
 use Rattle.cd_conf.specs.declared.limits.TheConstants.{FILE_LIMIT}
 
@@ -18,7 +18,7 @@ numbered line (Stray ∷ more) = Stray ∷ numbered line more
 -- too long to be read
 abbrev pub PrintIsReadAgain : Type 0
 PrintIsReadAgain =
-    (bytes : List ℕ) (items : List Item) → statements_of_text bytes ≡ Ok (statements_of_items items) →
+    (bytes : List ℕ) (items : List Item) → IsTreeOf bytes items →
     length (items_text items) ≤ FILE_LIMIT →
     statements_of_text (items_text items) ≡ Ok (numbered 1 (statements_of_items items))
 

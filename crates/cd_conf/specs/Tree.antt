@@ -1,7 +1,7 @@
 -- The statements that a tree of items writes out.
-use Rattle.std.specs.Prelude.{List, [], ◌∷◌, ◌++◌, if◌then◌else◌}
+use Rattle.std.specs.Prelude.{ℕ, ◌≡◌, Ok, List, [], ◌∷◌, ◌++◌, if◌then◌else◌}
 use Rattle.std.specs.List.{flat_map}
-use Rattle.cd_conf.specs.Statements.{Statement, OptionOf, StartOf, End, Stray}
+use Rattle.cd_conf.specs.Statements.{Statement, OptionOf, StartOf, End, Stray, statements_of_text}
 use Rattle.cd_conf.specs.declared.item.Item.{Item}
 use Rattle.cd_conf.specs.declared.item.Item.TheOpen.{Item-F}
 use Rattle.cd_conf.specs.declared.item.Item.TheFolds.{fold-Item}
@@ -26,3 +26,12 @@ statements_of = fold-Item (List Statement) item_step
 -- the statements that items write out, in order
 abbrev pub statements_of_items : List Item → List Statement
 statements_of_items items = flat_map statements_of items
+
+-- items are those of a text
+abbrev pub IsTreeOf : List ℕ → List Item → Type 0
+IsTreeOf bytes items = statements_of_text bytes ≡ Ok (statements_of_items items)
+
+-- a text has one tree
+abbrev pub EachTextHasOneTree : Type 0
+EachTextHasOneTree =
+    (bytes : List ℕ) (items others : List Item) → IsTreeOf bytes items → IsTreeOf bytes others → items ≡ others

@@ -4,6 +4,7 @@ ghost use Rattle.cd_conf.specs.Canonical.{value_text};
 ghost use Rattle.cd_conf.specs.Position.{at};
 ghost use Rattle.cd_conf.specs.Quotes.{is_one_line};
 ghost use Rattle.cd_conf.specs.ReadAgain.{PrintIsReadAgain, PrintIsOneForm};
+ghost use Rattle.cd_conf.specs.Tree.{EachTextHasOneTree};
 ghost use Rattle.cd_conf.specs.Values.{value_at};
 ghost use Rattle.cd_conf.specs.declared.item.Arg.TheVariants.{Words};
 ghost use Rattle.std.specs.Prelude.{IsTrue, List, [], ◌++◌, ◌∷◌, ◌≡◌, ℕ};
@@ -23,4 +24,9 @@ pub fn printed_texts_are_read_again()
 pub fn print_is_read_again()
     ensures read { PrintIsReadAgain }
     ensures form { PrintIsOneForm }
+{}
+
+/// A text has one tree: items that write out the same statements are the same.
+pub fn each_text_has_one_tree()
+    ensures { EachTextHasOneTree }
 {}

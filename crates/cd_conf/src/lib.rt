@@ -27,7 +27,7 @@ mod values;
 pub use canonical::print;
 pub use fault::{ConfFault, ConfKind};
 pub use item::{Arg, Args, Item, Items};
-pub use laws::{print_is_read_again, printed_texts_are_read_again};
+pub use laws::{each_text_has_one_tree, print_is_read_again, printed_texts_are_read_again};
 pub use limits::{DECIMALS_LIMIT, FILE_LIMIT, NESTING_LIMIT, NUMBER_LIMIT};
 pub use source::read;
 pub use text::read_text;

@@ -3,13 +3,18 @@ use Rattle.cd_conf.specs.Statements.{statements_of_text}
 use Rattle.cd_conf.specs.Tree.{statements_of_items}
 use Rattle.cd_io.specs.declared.source.ReadAllFault.{ReadAllFault}
 use Rattle.cd_conf.proofs.LineRuns.{not_whole}
-use Rattle.cd_conf.proofs.TextFaults.{of_given, of_text}
+use Rattle.cd_conf.proofs.TextFaults.{no_source_line, of_given, of_text}
 use Rattle.cd_conf.proofs.source.read.Goals as goal
 
 pub returns-in-Ok-clause-faults : goal.returns-in-Ok-clause-faults
 returns-in-Ok-clause-faults g c =
     let no = of_given statements_of_items c.read_text.result (statements_of_text c.as_slice.result.now) (of_text c.as_slice.result.now) c.read_text.ensures in
     rw no c.in-Ok.ensures.faults
+
+pub returns-in-Ok-clause-line : goal.returns-in-Ok-clause-line
+returns-in-Ok-clause-line g c =
+    no_source_line c.read_text.result
+    (of_given statements_of_items c.read_text.result (statements_of_text c.as_slice.result.now) (of_text c.as_slice.result.now) c.read_text.ensures)
 
 pub returns-in-Err-clause-value : goal.returns-in-Err-clause-value
 returns-in-Err-clause-value g c =
