@@ -231,3 +231,53 @@ fn prints_the_canonical_text(rt: HostRuntime) -> Result<(), Fail> {
     assert_eq!(rt; once.as_str(), CANONICAL);
     Ok(())
 }
+
+/// Puts the key and the line of each item behind, an item before what stands in it.
+fn push_lines(alloc: Global, out: &mut String, items: &Items) -> Result<(), Memory> {
+    for item in items.as_slice() {
+        let text = format!(in alloc; "{} {}\n", item.key.as_str(), item.line)?;
+        out.push_str(text.as_str())?;
+        push_lines(alloc, out, &item.children)?;
+    }
+    Ok(())
+}
+
+/// The keys and lines of the sample's items.
+const LINES: &str = "Hostname 2
+FQDNLookup 3
+TypesDB 4
+Interval 5
+LoadPlugin 6
+LoadPlugin 7
+LoadPlugin 8
+LoadPlugin 9
+LoadPlugin 10
+Plugin 12
+DataDir 13
+Plugin 15
+SocketFile 16
+SocketPerms 17
+Plugin 19
+Type 20
+DataSource 21
+FailureMax 22
+Hits 23
+Hysteresis 24
+Chain 27
+Rule 28
+Match 29
+Plugin 30
+TypeInstance 31
+Target 34
+Target 36
+";
+
+#[test]
+fn gives_the_line_of_each_item(rt: HostRuntime) -> Result<(), Fail> {
+    let mut got = String::new(rt.alloc());
+    if let Ok(items) = read_text(rt.alloc(), SAMPLE.as_bytes()) {
+        push_lines(rt.alloc(), &mut got, &items)?;
+    }
+    assert_eq!(rt; got.as_str(), LINES);
+    Ok(())
+}
