@@ -121,8 +121,8 @@ against x told = ind-Item (IsApart x) (λ z w are. record {
       let mine = fold-roll-Item (List Statement) item_step x in
       let other = fold-roll-Item (List Statement) item_step z in
       let t = layers_told x.section x.key x.args x.line x.children told z.section z.key z.args z.line z.children more rest
-          (subst (λ (xs : List Statement). AreSaid (xs ++ more)) mine s)
-          (sym (ap (λ (xs : List Statement). xs ++ more) mine) ∙ e ∙ ap (λ (xs : List Statement). xs ++ rest) other) in
+      (subst (λ (xs : List Statement). AreSaid (xs ++ more)) mine s)
+      (sym (ap (λ (xs : List Statement). xs ++ more) mine) ∙ e ∙ ap (λ (xs : List Statement). xs ++ rest) other) in
       (ap roll-Item t.0, t.1, t.2);
 })
 
