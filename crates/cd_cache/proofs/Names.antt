@@ -1,14 +1,14 @@
 -- Names that differ, and the names of rows.
-use Rattle.std.proofs.Common.{◌≡◌, ◌≢◌, ℕ, List, [], ◌∷◌, map, refl, ap, true, false, sym, ◌∙◌}
+use Rattle.cd_cache.specs.Cache.{name_order}
+use Rattle.cd_cache.specs.Rows.{row_of}
+use Rattle.cd_cache.specs.declared.entry.CacheEntry.{CacheEntry}
+use Rattle.std.proofs.Common.{List, [], ap, false, map, refl, sym, true, ℕ, ◌∙◌, ◌∷◌, ◌≡◌, ◌≢◌}
 use Rattle.std.proofs.lemmas.Bool.{false_from_ne_true}
 use Rattle.std.proofs.lemmas.Map.Text.{is_eq-slice_cmp}
 use Rattle.std.proofs.lemmas.Slice.Eq.{bytes_eq-Decides}
 use Rattle.std.specs.BTreeMap.{is_at}
 use Rattle.std.specs.Map.{keys_of}
 use Rattle.std.specs.Str.{bytes_eq}
-use Rattle.cd_cache.specs.declared.entry.CacheEntry.{CacheEntry}
-use Rattle.cd_cache.specs.Cache.{name_order}
-use Rattle.cd_cache.specs.Rows.{row_of}
 
 pub apart : (name other : List ℕ) → other ≢ name → is_at (name_order name) other ≡ false
 apart name other differ =

@@ -1,17 +1,17 @@
 -- What stands under a name after a list, and that the other names stay.
-use Rattle.std.proofs.Common.{◌≡◌, ◌≢◌, ℕ, true, false, cond, List, [], ◌∷◌, None, Some, refl, sym, ap, ◌∙◌}
-use Rattle.std.specs.BTreeMap.{insert_entry, is_at}
-use Rattle.std.specs.Map.{lookup}
-use Rattle.std.specs.Ordering.{is_eq, match_ordering}
-use Rattle.std.specs.declared.cmp.Ordering.TheVariants.{Less, Equal, Greater}
-use Rattle.std.proofs.lemmas.Map.Lookups.{exact_bytes}
+use Rattle.cd_cache.proofs.Names.{apart, itself}
+use Rattle.cd_cache.specs.Cache.{CacheMap, KeepsOthers, cached, entry_of, is_old, name_order, outcome, renewed, updated, with_entry}
+use Rattle.cd_cache.specs.declared.entry.CacheEntry.{CacheEntry}
+use Rattle.cd_cache.specs.declared.entry.Updated.TheVariants.{Old, Stored}
 use Rattle.cd_value.specs.Identifier.{name_of}
 use Rattle.cd_value.specs.declared.data.DataSet.{DataSet}
 use Rattle.cd_value.specs.declared.data.ValueList.{ValueList}
-use Rattle.cd_cache.specs.declared.entry.CacheEntry.{CacheEntry}
-use Rattle.cd_cache.specs.Cache.{CacheMap, KeepsOthers, cached, entry_of, is_old, name_order, outcome, renewed, updated, with_entry}
-use Rattle.cd_cache.specs.declared.entry.Updated.TheVariants.{Stored, Old}
-use Rattle.cd_cache.proofs.Names.{apart, itself}
+use Rattle.std.proofs.Common.{List, None, Some, [], ap, cond, false, refl, sym, true, ℕ, ◌∙◌, ◌∷◌, ◌≡◌, ◌≢◌}
+use Rattle.std.proofs.lemmas.Map.Lookups.{exact_bytes}
+use Rattle.std.specs.BTreeMap.{insert_entry, is_at}
+use Rattle.std.specs.Map.{lookup}
+use Rattle.std.specs.Ordering.{is_eq, match_ordering}
+use Rattle.std.specs.declared.cmp.Ordering.TheVariants.{Equal, Greater, Less}
 
 -- an entry that is put leaves the others
 lookup-insert_other : (name other : List ℕ) (entry : CacheEntry) (entries : List (List ℕ × CacheEntry)) → other ≢ name

@@ -1,19 +1,19 @@
 -- The value cache: a finite map from names to entries.
-use Rattle.std.specs.Prelude.{◌≡◌, ◌≢◌, ℕ, Bool, false, nat_le, if◌then◌else◌, List, [], Option, None, Some}
+use Rattle.cd_cache.specs.Rates.{rates_against}
+use Rattle.cd_cache.specs.declared.entry.CacheEntry.{CacheEntry}
+use Rattle.cd_cache.specs.declared.entry.Updated.TheVariants.{Old, Stored}
+use Rattle.cd_cache.specs.declared.entry.Updated.{Updated}
+use Rattle.cd_value.specs.Identifier.{name_of}
+use Rattle.cd_value.specs.declared.data.DataSet.{DataSet}
+use Rattle.cd_value.specs.declared.data.Rate.{Rate}
+use Rattle.cd_value.specs.declared.data.ValueList.{ValueList}
 use Rattle.std.specs.BTreeMap.{insert_entry, is_at}
 use Rattle.std.specs.Cmp.Lexicographic.{slice_cmp}
 use Rattle.std.specs.Map.{lookup, remove_entry}
 use Rattle.std.specs.Option.{option_map}
 use Rattle.std.specs.Ordering.{nat_cmp}
+use Rattle.std.specs.Prelude.{Bool, List, None, Option, Some, [], false, if◌then◌else◌, nat_le, ℕ, ◌≡◌, ◌≢◌}
 use Rattle.std.specs.declared.cmp.Ordering.{Ordering}
-use Rattle.cd_value.specs.declared.data.DataSet.{DataSet}
-use Rattle.cd_value.specs.declared.data.Rate.{Rate}
-use Rattle.cd_value.specs.declared.data.ValueList.{ValueList}
-use Rattle.cd_value.specs.Identifier.{name_of}
-use Rattle.cd_cache.specs.declared.entry.CacheEntry.{CacheEntry}
-use Rattle.cd_cache.specs.declared.entry.Updated.{Updated}
-use Rattle.cd_cache.specs.declared.entry.Updated.TheVariants.{Stored, Old}
-use Rattle.cd_cache.specs.Rates.{rates_against}
 
 -- a cache as contracts see it: the timeout, and the map, as its pairs of a name and an entry in the
 -- order of the names' bytes, each name once

@@ -1,4 +1,5 @@
 pub mod Cache
+pub mod Lost
 pub mod Rates
 pub mod Rows
 pub mod Renewal

@@ -1,13 +1,13 @@
 -- The rates of a value list against what is cached under its name.
-use Rattle.std.specs.Prelude.{ℕ, ◌-◌, List, map, Option, None, Some}
-use Rattle.std.specs.List.{zip}
+use Rattle.cd_cache.specs.declared.entry.CacheEntry.{CacheEntry}
+use Rattle.cd_value.specs.Rates.{rate_of}
 use Rattle.cd_value.specs.declared.data.DataSet.{DataSet}
 use Rattle.cd_value.specs.declared.data.DataSource.{DataSource}
 use Rattle.cd_value.specs.declared.data.Rate.{Rate}
 use Rattle.cd_value.specs.declared.data.Value.{Value}
 use Rattle.cd_value.specs.declared.data.ValueList.{ValueList}
-use Rattle.cd_value.specs.Rates.{rate_of}
-use Rattle.cd_cache.specs.declared.entry.CacheEntry.{CacheEntry}
+use Rattle.std.specs.List.{zip}
+use Rattle.std.specs.Prelude.{List, None, Option, Some, map, ℕ, ◌-◌}
 
 -- the rates of values that have none before them
 abbrev pub first_rates : List DataSource → List Value → List Rate

@@ -1,11 +1,11 @@
 -- What a value list brings to the entry of its name.
-use Rattle.std.specs.Prelude.{◌≡◌, ℕ, Some}
-use Rattle.std.specs.Option.{unwrap_or}
+use Rattle.cd_cache.specs.Cache.{renewed}
+use Rattle.cd_cache.specs.declared.entry.CacheEntry.{CacheEntry}
+use Rattle.cd_cache.specs.declared.renewal.Renewal.{Renewal}
 use Rattle.cd_value.specs.declared.data.DataSet.{DataSet}
 use Rattle.cd_value.specs.declared.data.ValueList.{ValueList}
-use Rattle.cd_cache.specs.declared.entry.CacheEntry.{CacheEntry}
-use Rattle.cd_cache.specs.Cache.{renewed}
-use Rattle.cd_cache.specs.declared.renewal.Renewal.{Renewal}
+use Rattle.std.specs.Option.{unwrap_or}
+use Rattle.std.specs.Prelude.{Some, ℕ, ◌≡◌}
 
 -- the entry that a list makes with what it brings
 abbrev pub renewed_by : Renewal → ValueList → ℕ → CacheEntry → CacheEntry

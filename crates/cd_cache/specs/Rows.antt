@@ -1,7 +1,7 @@
 -- The rows of the cache: the time and the name of each entry, in the order of the names' bytes.
-use Rattle.std.specs.Prelude.{ℕ, List, map}
-use Rattle.cd_cache.specs.declared.entry.CacheEntry.{CacheEntry}
 use Rattle.cd_cache.specs.Cache.{CacheMap}
+use Rattle.cd_cache.specs.declared.entry.CacheEntry.{CacheEntry}
+use Rattle.std.specs.Prelude.{List, map, ℕ}
 
 abbrev pub row_of : List ℕ × CacheEntry → ℕ × List ℕ
 row_of pair = (pair.1.list.time, pair.0)

@@ -1,13 +1,14 @@
 //! The cache and its calls.
-ghost use Rattle.std.specs.Prelude.{◌≡◌, None, Some, is_some, option_copied, IfOk, OnOk, OnErr};
-ghost use Rattle.std.specs.List.Sorted.{IsStrictlySortedBy};
-ghost use Rattle.cd_value.specs.Identifier.{name_of};
 ghost use Rattle.cd_cache.specs.Cache.{KeepsOthers, cached, empty, entry_of, name_order, outcome, updated, without};
+ghost use Rattle.cd_cache.specs.Lost.{lost_of};
 ghost use Rattle.cd_cache.specs.Rows.{names_of, rows_of};
+ghost use Rattle.cd_value.specs.Identifier.{name_of};
+ghost use Rattle.std.specs.List.Sorted.{IsStrictlySortedBy};
+ghost use Rattle.std.specs.Prelude.{IfOk, None, OnErr, OnOk, Some, is_some, option_copied, ◌≡◌};
 
 use crate::renewal::Renewal;
 use crate::{CacheEntry, Updated};
-use cd_value::{DataSet, Memory, RateView, Rates, Rows, Text, TryCopy, ValueList};
+use cd_value::{DataSet, Memory, Names, RateView, Rates, Rows, Text, TryCopy, ValueList};
 use std::alloc::Global;
 use std::collections::BTreeMap;
 use std::collections::btree_map::Entry;
@@ -105,6 +106,22 @@ impl Cache {
             rows.push((entry.list.time, name.copy(alloc)?))?;
         }
         Ok(Rows::from_vec(rows))
+    }
+
+    /// The names of which no list came within the timeout, which counts in intervals of the cached
+    /// list from its arrival on, at a moment in 2^-30 s, in the order of their bytes: the missing
+    /// values of collectd.conf(5), Timeout.
+    pub fn lost(&self, alloc: Global, now: u64) -> Result<Names, Memory>
+        ensures names { IfOk result (λ names. names ≡ lost_of now self.now) }
+        ensures sorted { IfOk result (λ names. IsStrictlySortedBy name_order names) }
+    {
+        let mut names = Vec::new(alloc);
+        for (name, entry) in self.entries.iter() {
+            if entry.is_lost(self.timeout, now) {
+                names.push(name.copy(alloc)?)?;
+            }
+        }
+        Ok(Names::from_vec(names))
     }
 
     /// Takes a name out of the cache, and says whether it was there.

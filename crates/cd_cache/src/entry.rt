@@ -1,4 +1,7 @@
 //! What the cache keeps.
+ghost use Rattle.cd_cache.specs.Lost.{expiry, is_lost};
+ghost use Rattle.std.specs.Prelude.{◌≡◌};
+
 use cd_value::{Rates, ValueList};
 
 /// The last value list of a name, its rates against the list before it, and the moment of its
@@ -8,6 +11,22 @@ pub struct CacheEntry {
     pub list: ValueList,
     pub rates: Rates,
     pub arrival: u64,
+}
+
+impl CacheEntry {
+    /// The moment in 2^-30 s from which on the entry counts as missing.
+    pub(crate) fn expiry(&self, timeout: u32) -> u128
+        ensures { result ≡ expiry timeout self.now }
+    {
+        u128::from(self.arrival) + u128::from(timeout) * u128::from(self.list.interval)
+    }
+
+    /// Whether it counts as missing at a moment.
+    pub(crate) fn is_lost(&self, timeout: u32, now: u64) -> bool
+        ensures { result ≡ is_lost timeout now self.now }
+    {
+        self.expiry(timeout) <= u128::from(now)
+    }
 }
 
 /// What became of a value list in the cache.

@@ -1,6 +1,6 @@
 //! The rates of a list against the list before it.
-ghost use Rattle.std.specs.Prelude.{◌≡◌, IfOk, option_copied};
 ghost use Rattle.cd_cache.specs.Rates.{first_rates, later_rates, rates_against};
+ghost use Rattle.std.specs.Prelude.{IfOk, option_copied, ◌≡◌};
 
 use crate::CacheEntry;
 use cd_value::{DataSet, DataSource, Memory, Rate, Rates, Value, ValueList};

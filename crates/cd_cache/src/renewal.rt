@@ -1,7 +1,7 @@
 //! What a value list brings to the entry of its name.
-ghost use Rattle.std.specs.Prelude.{◌≡◌, IfOk, IsTrue, None, Some};
 ghost use Rattle.cd_cache.specs.Cache.{is_old, renewed};
 ghost use Rattle.cd_cache.specs.Renewal.{IsRenewal, renewed_by};
+ghost use Rattle.std.specs.Prelude.{IfOk, IsTrue, None, Some, ◌≡◌};
 
 use crate::CacheEntry;
 use crate::rates::rates_against;

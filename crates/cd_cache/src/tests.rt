@@ -112,3 +112,32 @@ fn rows_are_sorted_by_name(rt: HostRuntime) -> Result<(), Fail> {
     assert_eq!(rt; printed.as_str(), rows);
     Ok(())
 }
+
+#[test]
+fn names_are_lost_after_two_intervals(rt: HostRuntime) -> Result<(), Fail> {
+    let alloc = rt.alloc();
+    let set = set_of(alloc, "gauge", DsType::Gauge)?;
+    let mut cache = Cache::new(alloc, 2);
+    for (name, now) in [
+        ("h/b/gauge", SECOND),
+        ("h/c/gauge", 3 * SECOND),
+        ("h/a/gauge", 2 * SECOND),
+    ] {
+        let list = list_of(alloc, name, 1, Value::Gauge(None))?;
+        assert_eq!(rt; cache.update(alloc, &list, &set, now)?, Updated::Stored);
+    }
+    for (now, lost) in [
+        (21 * SECOND - 1, ""),
+        (21 * SECOND, "h/b/gauge "),
+        (22 * SECOND, "h/a/gauge h/b/gauge "),
+        (u64::MAX, "h/a/gauge h/b/gauge h/c/gauge "),
+    ] {
+        let mut printed = Text::new(alloc);
+        for name in cache.lost(alloc, now)?.as_slice() {
+            printed.push(name.as_str())?;
+            printed.push(" ")?;
+        }
+        assert_eq!(rt; printed.as_str(), lost, "at {now}");
+    }
+    Ok(())
+}

@@ -1,12 +1,12 @@
 -- Blanks one after the other.
-use Rattle.std.proofs.Common.{◌≡◌, ◌<◌, ◌≤◌, ℕ, suc, ◌+◌, ◌==◌, ◌&&◌, length, arith, List, [], ◌∷◌, Bool, true, false, not, refl, ap, sym, ◌∙◌, Option, Some, None, MatchOption}
-use Rattle.std.specs.Option.{option_map}
-use Rattle.std.proofs.lemmas.Bool.{ne_eqb}
-use Rattle.cd_conf.specs.Position.{Position, at}
 use Rattle.cd_conf.proofs.Skips.{skipped}
-use Rattle.cd_conf.specs.Blanks.{is_blank, is_newline, after_blanks, after_newline, behind_blanks, behind_newline, line_after, line_behind_newline, next_line, skip_while}
+use Rattle.cd_conf.specs.Blanks.{after_blanks, after_newline, behind_blanks, behind_newline, is_blank, is_newline, line_after, line_behind_newline, next_line, skip_while}
 use Rattle.cd_conf.specs.Place.{position}
+use Rattle.cd_conf.specs.Position.{Position, at}
 use Rattle.cd_conf.specs.declared.place.Place.{Place}
+use Rattle.std.proofs.Common.{Bool, List, MatchOption, None, Option, Some, [], ap, arith, false, length, not, refl, suc, sym, true, ℕ, ◌&&◌, ◌+◌, ◌<◌, ◌==◌, ◌∙◌, ◌∷◌, ◌≡◌, ◌≤◌}
+use Rattle.std.proofs.lemmas.Bool.{ne_eqb}
+use Rattle.std.specs.Option.{option_map}
 
 -- a blank is passed over
 pub past_blank : (line c : ℕ) (cs : List ℕ) → is_blank c ≡ true → after_blanks line (c ∷ cs) ≡ after_blanks line cs

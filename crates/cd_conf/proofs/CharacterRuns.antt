@@ -1,14 +1,14 @@
 -- Keys and words, one character after the other.
-use Rattle.std.proofs.Common.{◌≡◌, ℕ, ◌<◌, ◌-◌, length, length-append, take, arith, List, [], ◌∷◌, ◌++◌, Bool, true, false, refl, ap, sym, ◌∙◌, add_comm, add-one}
-use Rattle.std.specs.Char.{encode_utf8}
-use Rattle.std.specs.List.{take_while, prefix_len}
-use Rattle.std.specs.Str.{IsUtf8, chars, encode_utf8_all}
+use Rattle.cd_conf.proofs.Skips.{skipped}
+use Rattle.cd_conf.specs.Blanks.{skip_while}
+use Rattle.cd_conf.specs.Characters.{after_run, front_run, may_stand}
+use Rattle.cd_conf.specs.declared.runs.Kind.{Kind}
+use Rattle.std.proofs.Common.{Bool, List, [], add-one, add_comm, ap, arith, false, length, length-append, refl, sym, take, true, ℕ, ◌++◌, ◌-◌, ◌<◌, ◌∙◌, ◌∷◌, ◌≡◌}
 use Rattle.std.proofs.Math.Seq.{take-append_seam}
 use Rattle.std.proofs.lemmas.Str.{encodes-append, encodes-chars}
-use Rattle.cd_conf.specs.Blanks.{skip_while}
-use Rattle.cd_conf.proofs.Skips.{skipped}
-use Rattle.cd_conf.specs.Characters.{may_stand, front_run, after_run}
-use Rattle.cd_conf.specs.declared.runs.Kind.{Kind}
+use Rattle.std.specs.Char.{encode_utf8}
+use Rattle.std.specs.List.{prefix_len, take_while}
+use Rattle.std.specs.Str.{IsUtf8, chars, encode_utf8_all}
 
 while_more : (p : ℕ → Bool) (c : ℕ) (cs : List ℕ) → p c ≡ true → take_while p (c ∷ cs) ≡ c ∷ take_while p cs
 while_more p c cs h = rw (h, add_comm 1 (prefix_len p cs), add-one) refl

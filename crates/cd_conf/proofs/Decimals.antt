@@ -1,9 +1,9 @@
 -- Decimals, one digit after the other.
-use Rattle.std.proofs.Common.{◌≡◌, ◌<◌, ℕ, zero, suc, ◌+◌, ◌/◌, ◌%◌, ◌^◌, ◌==◌, List, [], ◌∷◌, ◌++◌, false, refl, sym, ap, ◌∙◌, append_assoc, arith}
+use Rattle.cd_conf.specs.Canonical.{decimals}
+use Rattle.cd_value.specs.Print.{digit}
+use Rattle.std.proofs.Common.{List, [], ap, append_assoc, arith, false, refl, suc, sym, zero, ℕ, ◌%◌, ◌++◌, ◌+◌, ◌/◌, ◌<◌, ◌==◌, ◌^◌, ◌∙◌, ◌∷◌, ◌≡◌}
 use Rattle.std.proofs.lemmas.Bool.{ne_eqb}
 use Rattle.std.proofs.lemmas.List.{append-nil}
-use Rattle.cd_value.specs.Print.{digit}
-use Rattle.cd_conf.specs.Canonical.{decimals}
 
 pub first_decimal : (k n : ℕ) → 0 < n → decimals (suc k) n ≡ digit (n / 10 ^ k) ∷ decimals k (n % 10 ^ k)
 unfolding decimals

@@ -1,31 +1,31 @@
 -- Lines, one after the other.
-use Rattle.std.proofs.Common.{◌≡◌, ℕ, suc, replicate, ◌==◌, ◌<◌, List, [], ◌∷◌, Bool, true, false, length, ◌≤◌, Result, Ok, Err, IsOk, IfOk, IfSome, Option, Some, None, if◌then◌else◌, refl, sym, ap, ◌∙◌, arith}
-use Rattle.cd_reading.specs.First.{◌>>=◌, unless}
-use Rattle.cd_reading.specs.Gives.{Gives, Refuses}
+use Rattle.cd_conf.proofs.CharacterRuns.{front_none, run_shorter}
+use Rattle.cd_conf.specs.Blanks.{behind_blanks}
 use Rattle.cd_conf.specs.Characters.{after_run, front_run, may_stand}
 use Rattle.cd_conf.specs.Faults.{conf_fault, fault_at, source_fault, text_fault, unless_memory}
-use Rattle.cd_io.specs.declared.source.ReadAllFault.{ReadAllFault}
-use Rattle.cd_io.specs.declared.source.ReadAllFault.TheVariants as source
-use Rattle.cd_conf.specs.Blanks.{behind_blanks}
-use Rattle.cd_conf.specs.declared.limits.TheConstants.{FILE_LIMIT}
-use Rattle.std.specs.Str.{IsUtf8, chars, is_utf8}
-use Rattle.std.proofs.lemmas.Str.{is_utf8-from_IsUtf8}
-use Rattle.std.proofs.lemmas.Bool.{le-leb, lt-leb}
-use Rattle.std.proofs.lemmas.List.{length-replicate}
 use Rattle.cd_conf.specs.Pile.{Reads, Took, opens_in}
 use Rattle.cd_conf.specs.Position.{Position, at}
 use Rattle.cd_conf.specs.Repeated.{repeated}
 use Rattle.cd_conf.specs.Statements.{Open, Stand, Statement, bad_line, closed, head_at, head_from, keyed, line_at, line_behind, open_behind, section_head, stand, statement_behind, statement_of, statements_at, statements_of_text, values_behind}
 use Rattle.cd_conf.specs.declared.fault.ConfFault.{ConfFault}
-use Rattle.cd_conf.specs.declared.fault.ConfKind.{ConfKind}
 use Rattle.cd_conf.specs.declared.fault.ConfKind.TheVariants as kinds
-use Rattle.cd_conf.specs.declared.item.Arg.{Arg}
-use Rattle.cd_conf.specs.declared.pile.Pile.{Pile}
+use Rattle.cd_conf.specs.declared.fault.ConfKind.{ConfKind}
 use Rattle.cd_conf.specs.declared.head.Head.{Head}
+use Rattle.cd_conf.specs.declared.head.LineKind.TheVariants.{OptionLine, SectionEnd, SectionStart}
 use Rattle.cd_conf.specs.declared.head.LineKind.{LineKind}
-use Rattle.cd_conf.specs.declared.head.LineKind.TheVariants.{OptionLine, SectionStart, SectionEnd}
+use Rattle.cd_conf.specs.declared.item.Arg.{Arg}
+use Rattle.cd_conf.specs.declared.limits.TheConstants.{FILE_LIMIT}
+use Rattle.cd_conf.specs.declared.pile.Pile.{Pile}
 use Rattle.cd_conf.specs.declared.runs.Kind.TheVariants.{Key}
-use Rattle.cd_conf.proofs.CharacterRuns.{front_none, run_shorter}
+use Rattle.cd_io.specs.declared.source.ReadAllFault.TheVariants as source
+use Rattle.cd_io.specs.declared.source.ReadAllFault.{ReadAllFault}
+use Rattle.cd_reading.specs.First.{unless, ◌>>=◌}
+use Rattle.cd_reading.specs.Gives.{Gives, Refuses}
+use Rattle.std.proofs.Common.{Bool, Err, IfOk, IfSome, IsOk, List, None, Ok, Option, Result, Some, [], ap, arith, false, if◌then◌else◌, length, refl, replicate, suc, sym, true, ℕ, ◌<◌, ◌==◌, ◌∙◌, ◌∷◌, ◌≡◌, ◌≤◌}
+use Rattle.std.proofs.lemmas.Bool.{le-leb, lt-leb}
+use Rattle.std.proofs.lemmas.List.{length-replicate}
+use Rattle.std.proofs.lemmas.Str.{is_utf8-from_IsUtf8}
+use Rattle.std.specs.Str.{IsUtf8, chars, is_utf8}
 
 -- the lines of a text from a position on, and the sections that are open behind them
 abbrev pub all_lines : Position → Result (List Statement × Stand) ConfFault

@@ -1,11 +1,11 @@
 -- The value of digits, and its limit.
-use Rattle.std.proofs.Common.{◌≡◌, ℕ, ◌+◌, ◌*◌, ◌^◌, ◌<◌, ◌≤◌, Bool, true, false, List, [], ◌∷◌, length, drop, get_or, Some, None, refl, sym, ap, ◌∙◌, arith, add-one, drop-cons, lit<}
-use Rattle.std.specs.Char.{digit_value}
-use Rattle.std.specs.Str.Parse.{digits_value_after}
-use Rattle.std.specs.Prelude.{nat_le}
-use Rattle.std.proofs.Math.Nat.{mul-le-mul_left, one-le-pow}
-use Rattle.std.proofs.lemmas.Bool.{lt-leb, leb-true, leb-false}
 use Rattle.cd_conf.specs.Numbers.{at_most}
+use Rattle.std.proofs.Common.{Bool, List, None, Some, [], add-one, ap, arith, drop, drop-cons, false, get_or, length, lit<, refl, sym, true, ℕ, ◌*◌, ◌+◌, ◌<◌, ◌^◌, ◌∙◌, ◌∷◌, ◌≡◌, ◌≤◌}
+use Rattle.std.proofs.Math.Nat.{mul-le-mul_left, one-le-pow}
+use Rattle.std.proofs.lemmas.Bool.{leb-false, leb-true, lt-leb}
+use Rattle.std.specs.Char.{digit_value}
+use Rattle.std.specs.Prelude.{nat_le}
+use Rattle.std.specs.Str.Parse.{digits_value_after}
 
 -- more digits make no smaller number
 pub grows : (base n : ℕ) (ds : List ℕ) → 1 ≤ base → n ≤ digits_value_after base n ds

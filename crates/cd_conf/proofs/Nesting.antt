@@ -1,14 +1,14 @@
 -- The end of a section.
-use Rattle.std.proofs.Common.{◌≡◌, ℕ, List, [], ◌∷◌, ◌++◌, map, reverse, refl, sym, ap, ◌∙◌, append_assoc}
-use Rattle.std.proofs.lemmas.List.{append-nil, map_push, reverse-append}
-use Rattle.std.proofs.lemmas.List.Concat.{flat_map-append}
-use Rattle.std.specs.List.{flat_map}
 use Rattle.cd_conf.specs.Pile.{front_of, open_of}
 use Rattle.cd_conf.specs.Statements.{End, Open, StartOf, Statement}
 use Rattle.cd_conf.specs.Tree.{joined, statements_of, statements_of_items}
 use Rattle.cd_conf.specs.declared.item.Arg.{Arg}
 use Rattle.cd_conf.specs.declared.item.Item.{Item}
 use Rattle.cd_conf.specs.declared.pile.OpenSection.{OpenSection}
+use Rattle.std.proofs.Common.{List, [], ap, append_assoc, map, refl, reverse, sym, ℕ, ◌++◌, ◌∙◌, ◌∷◌, ◌≡◌}
+use Rattle.std.proofs.lemmas.List.Concat.{flat_map-append}
+use Rattle.std.proofs.lemmas.List.{append-nil, map_push, reverse-append}
+use Rattle.std.specs.List.{flat_map}
 
 pub joined_all : (items : List Item) → joined (map statements_of items) ≡ statements_of_items items
 joined_all [] = refl

@@ -1,15 +1,15 @@
 -- A text has one tree: the statements that items write out tell the items.
-use Rattle.std.proofs.Common.{◌≡◌, ℕ, List, [], ◌∷◌, ◌++◌, Bool, true, false, if◌then◌else◌, map, refl, sym, ap, subst, ◌∙◌, append_assoc}
-use Rattle.cd_conf.specs.Statements.{End, OptionOf, StartOf, Statement, Stray}
-use Rattle.cd_conf.specs.Tree.{EachTextHasOneTree, item_step, joined, statements_of, statements_of_items, stray}
-use Rattle.cd_conf.specs.declared.item.Arg.{Arg}
-use Rattle.cd_conf.specs.declared.item.Item.{Item, roll-Item}
-use Rattle.cd_conf.specs.declared.item.Item.TheFolds.{fold-roll-Item, ind-Item}
-use Rattle.cd_conf.specs.declared.item.Item.TheOpen.{Item-F}
 use Rattle.cd_conf.proofs.Nesting.{joined_all}
 use Rattle.cd_conf.proofs.PrintedTexts.{AreReadable}
 use Rattle.cd_conf.proofs.ReadParts.{ok_same}
 use Rattle.cd_conf.proofs.ReadStatements.{text_good}
+use Rattle.cd_conf.specs.Statements.{End, OptionOf, StartOf, Statement, Stray}
+use Rattle.cd_conf.specs.Tree.{EachTextHasOneTree, item_step, joined, statements_of, statements_of_items, stray}
+use Rattle.cd_conf.specs.declared.item.Arg.{Arg}
+use Rattle.cd_conf.specs.declared.item.Item.TheFolds.{fold-roll-Item, ind-Item}
+use Rattle.cd_conf.specs.declared.item.Item.TheOpen.{Item-F}
+use Rattle.cd_conf.specs.declared.item.Item.{Item, roll-Item}
+use Rattle.std.proofs.Common.{Bool, List, [], ap, append_assoc, false, if◌then◌else◌, map, refl, subst, sym, true, ℕ, ◌++◌, ◌∙◌, ◌∷◌, ◌≡◌}
 
 -- each of the statements is one that a line says
 abbrev AreSaid : List Statement → Type 0

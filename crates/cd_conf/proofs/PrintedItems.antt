@@ -1,12 +1,12 @@
 -- The text of items is that of the statements that they write out.
-use Rattle.std.proofs.Common.{◌≡◌, ℕ, List, [], ◌∷◌, ◌++◌, Bool, true, false, if◌then◌else◌, map, refl, sym, ap, subst, ◌∙◌, append_assoc}
-use Rattle.std.specs.List.{flat_map}
 use Rattle.cd_conf.specs.Canonical.{deeper, end_text, item_text, items_text, option_text, start_text, text_step}
 use Rattle.cd_conf.specs.Statements.{End, OptionOf, StartOf, Statement, Stray}
 use Rattle.cd_conf.specs.Tree.{item_step, joined, statements_of, statements_of_items, stray}
 use Rattle.cd_conf.specs.declared.item.Arg.{Arg}
-use Rattle.cd_conf.specs.declared.item.Item.{Item}
 use Rattle.cd_conf.specs.declared.item.Item.TheFolds.{fold-roll-Item, ind-Item}
+use Rattle.cd_conf.specs.declared.item.Item.{Item}
+use Rattle.std.proofs.Common.{Bool, List, [], ap, append_assoc, false, if◌then◌else◌, map, refl, subst, sym, true, ℕ, ◌++◌, ◌∙◌, ◌∷◌, ◌≡◌}
+use Rattle.std.specs.List.{flat_map}
 
 -- the indent of a line in sections of these keys
 abbrev pub indent_in : List (List ℕ) → List ℕ

@@ -1,13 +1,8 @@
 -- The lines that are printed are read as what they say.
-use Rattle.std.proofs.Common.{◌≡◌, ℕ, ◌+◌, ◌<◌, ◌==◌, ◌||◌, List, [], ◌∷◌, ◌++◌, length, Bool, true, false, Some, Ok, Err, if◌then◌else◌, refl, ap, ◌∙◌, append_assoc, arith, length-append}
-use Rattle.std.specs.Prelude.{nat_le}
-use Rattle.std.specs.List.{flat_map, list_all}
-use Rattle.std.specs.Str.{IsAscii, bytes_eq, chars, str_to_ascii_lowercase}
-use Rattle.std.proofs.lemmas.Bool.{and_parts, eq-eqb, eqb-true, lt-ltb, lt-leb}
-use Rattle.std.proofs.lemmas.Bool.Decides.{nat_tests}
-use Rattle.std.proofs.lemmas.List.Folds.{list_all-append}
-use Rattle.std.proofs.lemmas.Str.{IsUtf8-from_ascii, chars-IsAscii, chars-append, encodes-IsAscii}
-use Rattle.std.proofs.lemmas.Str.Ascii.{IsAscii-cons, IsAscii-nil}
+use Rattle.cd_conf.proofs.BlankRuns.{blanks_shrink, past_blank}
+use Rattle.cd_conf.proofs.LineRuns.{spoken}
+use Rattle.cd_conf.proofs.PrintedItems.{indent_in}
+use Rattle.cd_conf.proofs.PrintedValues.{AllReadable, EndsValues, ascii_first, no_blank_at, no_blanks_here, passes_apart, run_reads, stops_at, values_read, values_utf8}
 use Rattle.cd_conf.specs.Blanks.{after_blanks, behind_blanks, is_blank, next_line, skip_while}
 use Rattle.cd_conf.specs.Canonical.{end_text, option_text, spaced, start_text}
 use Rattle.cd_conf.specs.Characters.{after_run, is_in_key}
@@ -16,15 +11,20 @@ use Rattle.cd_conf.specs.Position.{Position, at}
 use Rattle.cd_conf.specs.Statements.{End, Open, OptionOf, Stand, StartOf, Statement, head_at, head_from, keyed, line_at, line_behind, line_end, open_behind, section_head, stand, statement_at, statement_behind, statement_from}
 use Rattle.cd_conf.specs.declared.fault.ConfKind.TheVariants.{TooDeep, WrongEnd}
 use Rattle.cd_conf.specs.declared.head.Head.{Head}
-use Rattle.cd_conf.specs.declared.head.LineKind.{LineKind}
 use Rattle.cd_conf.specs.declared.head.LineKind.TheVariants.{OptionLine, SectionEnd, SectionStart}
+use Rattle.cd_conf.specs.declared.head.LineKind.{LineKind}
 use Rattle.cd_conf.specs.declared.item.Arg.{Arg}
 use Rattle.cd_conf.specs.declared.limits.TheConstants.{NESTING_LIMIT}
 use Rattle.cd_conf.specs.declared.runs.Kind.TheVariants.{Key}
-use Rattle.cd_conf.proofs.BlankRuns.{blanks_shrink, past_blank}
-use Rattle.cd_conf.proofs.LineRuns.{spoken}
-use Rattle.cd_conf.proofs.PrintedItems.{indent_in}
-use Rattle.cd_conf.proofs.PrintedValues.{AllReadable, EndsValues, ascii_first, no_blank_at, no_blanks_here, passes_apart, run_reads, stops_at, values_read, values_utf8}
+use Rattle.std.proofs.Common.{Bool, Err, List, Ok, Some, [], ap, append_assoc, arith, false, if◌then◌else◌, length, length-append, refl, true, ℕ, ◌++◌, ◌+◌, ◌<◌, ◌==◌, ◌||◌, ◌∙◌, ◌∷◌, ◌≡◌}
+use Rattle.std.proofs.lemmas.Bool.Decides.{nat_tests}
+use Rattle.std.proofs.lemmas.Bool.{and_parts, eq-eqb, eqb-true, lt-leb, lt-ltb}
+use Rattle.std.proofs.lemmas.List.Folds.{list_all-append}
+use Rattle.std.proofs.lemmas.Str.Ascii.{IsAscii-cons, IsAscii-nil}
+use Rattle.std.proofs.lemmas.Str.{IsUtf8-from_ascii, chars-IsAscii, chars-append, encodes-IsAscii}
+use Rattle.std.specs.List.{flat_map, list_all}
+use Rattle.std.specs.Prelude.{nat_le}
+use Rattle.std.specs.Str.{IsAscii, bytes_eq, chars, str_to_ascii_lowercase}
 
 -- what is true of a key that was read
 pub record IsKey (key : List ℕ) : Type 0 where

@@ -1,27 +1,27 @@
 -- A number that is printed is read as itself.
-use Rattle.std.proofs.Common.{◌≡◌, ℕ, zero, suc, ◌+◌, ◌-◌, ◌*◌, ◌/◌, ◌%◌, ◌^◌, ◌<◌, ◌≤◌, ◌==◌, ◌&&◌, ◌||◌, List, [], ◌∷◌, ◌++◌, length, take, length-append, Bool, true, false, Some, None, Ok, subst, refl, sym, ap, ◌∙◌, arith, ℤ, pos}
-use Rattle.std.specs.Prelude.{nat_lt, nat_abs, negsuc, slice_index}
-use Rattle.std.specs.Char.{digit_value, is_digit}
-use Rattle.std.specs.Fmt.{decimal}
-use Rattle.std.specs.Int.{IsInRange}
-use Rattle.std.specs.List.{list_all, list_any, position, position_or_len, before_first}
-use Rattle.std.specs.Str.Parse.{AllDigits, IsNumeral, digits_value, digits_value_after, starts_with_minus, without_leading_sign}
-use Rattle.std.proofs.Math.Nat.{div-lt_iff_lt-mul, one-le-pow}
-use Rattle.std.proofs.Math.Seq.{take-append_seam, drop-append-add, take-length}
-use Rattle.std.proofs.lemmas.Nat.{pow-add}
-use Rattle.std.proofs.lemmas.Bool.{and_from, and_parts, and_left, and_right, both_ways, eqb-true, le-leb, le-ltb, lt-ltb, ltb-false, ltb-true, ne_eqb, or_right}
-use Rattle.std.proofs.lemmas.List.{append-nil}
-use Rattle.std.proofs.lemmas.List.Folds.{list_all-append}
-use Rattle.std.proofs.lemmas.Fmt.{decimal_is_IsNumeral_wide, decimal_digit, first_decimal}
-use Rattle.std.proofs.lemmas.Str.{digit_value_digit}
-use Rattle.std.proofs.lemmas.Str.Parse.{digit_from_value}
-use Rattle.cd_value.specs.Print.{digit}
-use Rattle.cd_value.proofs.Cuts.{place_behind, place_none}
-use Rattle.cd_text.specs.Digits.{after_place, is_dot}
 use Rattle.cd_conf.specs.Canonical.{decimals, fraction_text, number_text, unsigned_text}
 use Rattle.cd_conf.specs.Characters.{is_in_word}
 use Rattle.cd_conf.specs.Numbers.{Digits, all_digits, are_digits, at_most, decimal_digits, digits, digits_of, fraction, is_false_word, is_hexadecimal, is_octal, is_true_word, is_whole, magnitude, millionths, millionths_limit, number_arg, plain_arg, with_sign, word_arg}
 use Rattle.cd_conf.specs.declared.item.Arg.TheVariants.{Number}
+use Rattle.cd_text.specs.Digits.{after_place, is_dot}
+use Rattle.cd_value.proofs.Cuts.{place_behind, place_none}
+use Rattle.cd_value.specs.Print.{digit}
+use Rattle.std.proofs.Common.{Bool, List, None, Ok, Some, [], ap, arith, false, length, length-append, pos, refl, subst, suc, sym, take, true, zero, ℕ, ℤ, ◌%◌, ◌&&◌, ◌*◌, ◌++◌, ◌+◌, ◌-◌, ◌/◌, ◌<◌, ◌==◌, ◌^◌, ◌||◌, ◌∙◌, ◌∷◌, ◌≡◌, ◌≤◌}
+use Rattle.std.proofs.Math.Nat.{div-lt_iff_lt-mul, one-le-pow}
+use Rattle.std.proofs.Math.Seq.{drop-append-add, take-append_seam, take-length}
+use Rattle.std.proofs.lemmas.Bool.{and_from, and_left, and_parts, and_right, both_ways, eqb-true, le-leb, le-ltb, lt-ltb, ltb-false, ltb-true, ne_eqb, or_right}
+use Rattle.std.proofs.lemmas.Fmt.{decimal_digit, decimal_is_IsNumeral_wide, first_decimal}
+use Rattle.std.proofs.lemmas.List.Folds.{list_all-append}
+use Rattle.std.proofs.lemmas.List.{append-nil}
+use Rattle.std.proofs.lemmas.Nat.{pow-add}
+use Rattle.std.proofs.lemmas.Str.Parse.{digit_from_value}
+use Rattle.std.proofs.lemmas.Str.{digit_value_digit}
+use Rattle.std.specs.Char.{digit_value, is_digit}
+use Rattle.std.specs.Fmt.{decimal}
+use Rattle.std.specs.Int.{IsInRange}
+use Rattle.std.specs.List.{before_first, list_all, list_any, position, position_or_len}
+use Rattle.std.specs.Prelude.{nat_abs, nat_lt, negsuc, slice_index}
+use Rattle.std.specs.Str.Parse.{AllDigits, IsNumeral, digits_value, digits_value_after, starts_with_minus, without_leading_sign}
 
 -- ---- decimals
 

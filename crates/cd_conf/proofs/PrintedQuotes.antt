@@ -1,22 +1,22 @@
 -- A text that is printed in quotes is read as itself.
-use Rattle.std.proofs.Common.{◌≡◌, ℕ, ◌==◌, ◌||◌, List, [], ◌∷◌, ◌++◌, Bool, true, false, Option, Some, Result, Ok, cond, refl, ap, ◌∙◌, append_assoc}
+use Rattle.cd_conf.specs.Blanks.{behind_blanks, is_newline}
+use Rattle.cd_conf.specs.Position.{Position, at}
+use Rattle.cd_conf.specs.Quotes.{is_one_line, quoted_from, with_text}
+use Rattle.cd_conf.specs.Values.{quoted_arg, some_value, value_at, value_from}
+use Rattle.cd_conf.specs.declared.fault.ConfFault.{ConfFault}
+use Rattle.cd_conf.specs.declared.item.Arg.TheVariants.{Words}
+use Rattle.cd_conf.specs.declared.item.Arg.{Arg}
+use Rattle.cd_conf.specs.declared.quotes.Quoting.TheVariants.{Inside}
+use Rattle.cd_reading.specs.First.{◌>>=◌}
+use Rattle.cd_text.specs.Quoting.{escaped, quoted_of}
+use Rattle.std.proofs.Common.{Bool, List, Ok, Option, Result, Some, [], ap, append_assoc, cond, false, refl, true, ℕ, ◌++◌, ◌==◌, ◌||◌, ◌∙◌, ◌∷◌, ◌≡◌}
+use Rattle.std.proofs.Math.Utf8.{scalar, scalars}
+use Rattle.std.proofs.lemmas.Bool.{and_parts, not-true, or_parts}
+use Rattle.std.proofs.lemmas.Str.{chars-encodes, encodes-chars, scalars-chars}
 use Rattle.std.specs.Char.{encode_utf8}
 use Rattle.std.specs.List.{flat_map}
 use Rattle.std.specs.Prelude.{not}
 use Rattle.std.specs.Str.{IsUtf8, chars, encode_utf8_all}
-use Rattle.std.proofs.Math.Utf8.{scalar, scalars}
-use Rattle.std.proofs.lemmas.Str.{chars-encodes, encodes-chars, scalars-chars}
-use Rattle.std.proofs.lemmas.Bool.{and_parts, not-true, or_parts}
-use Rattle.cd_text.specs.Quoting.{escaped, quoted_of}
-use Rattle.cd_reading.specs.First.{◌>>=◌}
-use Rattle.cd_conf.specs.Blanks.{behind_blanks, is_newline}
-use Rattle.cd_conf.specs.Values.{quoted_arg, some_value, value_at, value_from}
-use Rattle.cd_conf.specs.declared.fault.ConfFault.{ConfFault}
-use Rattle.cd_conf.specs.declared.item.Arg.{Arg}
-use Rattle.cd_conf.specs.declared.item.Arg.TheVariants.{Words}
-use Rattle.cd_conf.specs.Position.{Position, at}
-use Rattle.cd_conf.specs.Quotes.{is_one_line, quoted_from, with_text}
-use Rattle.cd_conf.specs.declared.quotes.Quoting.TheVariants.{Inside}
 
 one_more : (c : ℕ) (cs rest : List ℕ) (line : ℕ) → (c == 10) ≡ false → (c == 34 || c == 92) ≡ false
     → quoted_from (c ∷ cs) Inside line ≡ with_text (encode_utf8 c) (quoted_from cs Inside line)

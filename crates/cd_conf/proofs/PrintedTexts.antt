@@ -1,10 +1,10 @@
 -- The text that is printed of statements is read as them.
-use Rattle.std.proofs.Common.{◌≡◌, ℕ, suc, ◌+◌, ◌<◌, ◌≤◌, List, [], ◌∷◌, ◌++◌, length, map, Result, Ok, None, refl, sym, ap, subst, ◌∙◌, append_assoc, arith}
-use Rattle.std.specs.List.{flat_map}
-use Rattle.std.specs.Str.{IsUtf8, chars}
-use Rattle.std.proofs.lemmas.List.{append-nil}
-use Rattle.std.proofs.lemmas.Str.{IsUtf8-append, IsUtf8-from_ascii, IsUtf8-nil, chars-nil}
-use Rattle.std.proofs.lemmas.Str.Ascii.{IsAscii-cons, IsAscii-nil}
+use Rattle.cd_conf.proofs.BlankRuns.{at_end}
+use Rattle.cd_conf.proofs.LineRuns.{all_lines, finished, good_text}
+use Rattle.cd_conf.proofs.PrintedItems.{indent_in, written}
+use Rattle.cd_conf.proofs.PrintedLines.{IsKey, Says, end_reads, key_ascii, option_reads, spaces, spaces_ascii, start_reads}
+use Rattle.cd_conf.proofs.PrintedValues.{AllReadable, values_utf8}
+use Rattle.cd_conf.proofs.Repeating.{Going, begins, goes_on, stops}
 use Rattle.cd_conf.specs.Blanks.{after_blanks, behind_blanks}
 use Rattle.cd_conf.specs.Canonical.{end_text, option_text, spaced, start_text}
 use Rattle.cd_conf.specs.Position.{Position, at}
@@ -13,12 +13,12 @@ use Rattle.cd_conf.specs.Statements.{End, Open, OptionOf, Stand, StartOf, Statem
 use Rattle.cd_conf.specs.declared.fault.ConfFault.{ConfFault}
 use Rattle.cd_conf.specs.declared.item.Arg.{Arg}
 use Rattle.cd_conf.specs.declared.limits.TheConstants.{FILE_LIMIT, NESTING_LIMIT}
-use Rattle.cd_conf.proofs.BlankRuns.{at_end}
-use Rattle.cd_conf.proofs.LineRuns.{all_lines, finished, good_text}
-use Rattle.cd_conf.proofs.PrintedItems.{indent_in, written}
-use Rattle.cd_conf.proofs.PrintedLines.{IsKey, Says, end_reads, key_ascii, option_reads, spaces, spaces_ascii, start_reads}
-use Rattle.cd_conf.proofs.PrintedValues.{AllReadable, values_utf8}
-use Rattle.cd_conf.proofs.Repeating.{Going, begins, goes_on, stops}
+use Rattle.std.proofs.Common.{List, None, Ok, Result, [], ap, append_assoc, arith, length, map, refl, subst, suc, sym, ℕ, ◌++◌, ◌+◌, ◌<◌, ◌∙◌, ◌∷◌, ◌≡◌, ◌≤◌}
+use Rattle.std.proofs.lemmas.List.{append-nil}
+use Rattle.std.proofs.lemmas.Str.Ascii.{IsAscii-cons, IsAscii-nil}
+use Rattle.std.proofs.lemmas.Str.{IsUtf8-append, IsUtf8-from_ascii, IsUtf8-nil, chars-nil}
+use Rattle.std.specs.List.{flat_map}
+use Rattle.std.specs.Str.{IsUtf8, chars}
 
 -- statements that can be read in sections of these keys, the innermost first, with none open behind
 -- them

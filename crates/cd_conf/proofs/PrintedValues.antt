@@ -1,16 +1,9 @@
 -- The values that are printed behind a key are read as themselves.
-use Rattle.std.proofs.Common.{◌≡◌, ℕ, ◌<◌, ◌≤◌, ◌==◌, ◌||◌, List, [], ◌∷◌, ◌++◌, length, Bool, true, false, Some, None, Result, Ok, if◌then◌else◌, refl, sym, ap, subst, ◌∙◌, append_assoc, arith, length-append}
-use Rattle.std.specs.Prelude.{nat_abs, suc, not, codes}
-use Rattle.std.specs.Char.{encode_utf8}
-use Rattle.std.specs.List.{flat_map, list_all}
-use Rattle.std.specs.Str.{IsAscii, IsUtf8, chars, encode_utf8_all}
-use Rattle.std.proofs.lemmas.Bool.{and_parts, both_ways, ne_eqb, not-true, not_from_false, or_parts}
-use Rattle.std.proofs.lemmas.Bool.Decides.{nat_tests}
-use Rattle.std.proofs.lemmas.List.{append-nil}
-use Rattle.std.proofs.lemmas.Str.{IsUtf8-append, IsUtf8-from_ascii, IsUtf8-nil, chars-IsAscii, chars-append, chars-nil, encodes-IsAscii}
-use Rattle.std.proofs.lemmas.Str.Ascii.{IsAscii-cons, IsAscii-nil}
-use Rattle.cd_text.specs.Quoting.{escaped}
-use Rattle.cd_reading.specs.First.{◌>>=◌}
+use Rattle.cd_conf.proofs.BlankRuns.{blanks_shrink, no_blank, past_blank}
+use Rattle.cd_conf.proofs.CharacterRuns.{after_end, after_more, after_none, front_more, front_none}
+use Rattle.cd_conf.proofs.PrintedNumbers.{number_in_word, number_reads}
+use Rattle.cd_conf.proofs.PrintedQuotes.{chars_quoted, quoted_utf8, text_reads}
+use Rattle.cd_conf.proofs.Repeating.{Going, begins, goes_on, stops}
 use Rattle.cd_conf.specs.Blanks.{after_blanks, behind_blanks, is_blank}
 use Rattle.cd_conf.specs.Canonical.{number_text, spaced, value_text}
 use Rattle.cd_conf.specs.Characters.{after_run, front_run, is_in_word, may_stand}
@@ -20,15 +13,22 @@ use Rattle.cd_conf.specs.Quotes.{is_one_line, quoted_at}
 use Rattle.cd_conf.specs.Repeated.{repeated}
 use Rattle.cd_conf.specs.Values.{quoted_arg, some_value, value_at, values_at, word_at}
 use Rattle.cd_conf.specs.declared.fault.ConfFault.{ConfFault}
+use Rattle.cd_conf.specs.declared.item.Arg.TheVariants.{Flag, Number, Words}
 use Rattle.cd_conf.specs.declared.item.Arg.{Arg}
-use Rattle.cd_conf.specs.declared.item.Arg.TheVariants.{Words, Number, Flag}
-use Rattle.cd_conf.specs.declared.runs.Kind.{Kind}
 use Rattle.cd_conf.specs.declared.runs.Kind.TheVariants.{Word}
-use Rattle.cd_conf.proofs.BlankRuns.{blanks_shrink, no_blank, past_blank}
-use Rattle.cd_conf.proofs.CharacterRuns.{after_end, after_more, after_none, front_more, front_none}
-use Rattle.cd_conf.proofs.PrintedNumbers.{number_in_word, number_reads}
-use Rattle.cd_conf.proofs.PrintedQuotes.{chars_quoted, quoted_utf8, text_reads}
-use Rattle.cd_conf.proofs.Repeating.{Going, begins, goes_on, stops}
+use Rattle.cd_conf.specs.declared.runs.Kind.{Kind}
+use Rattle.cd_reading.specs.First.{◌>>=◌}
+use Rattle.cd_text.specs.Quoting.{escaped}
+use Rattle.std.proofs.Common.{Bool, List, None, Ok, Result, Some, [], ap, append_assoc, arith, false, if◌then◌else◌, length, length-append, refl, subst, sym, true, ℕ, ◌++◌, ◌<◌, ◌==◌, ◌||◌, ◌∙◌, ◌∷◌, ◌≡◌, ◌≤◌}
+use Rattle.std.proofs.lemmas.Bool.Decides.{nat_tests}
+use Rattle.std.proofs.lemmas.Bool.{and_parts, both_ways, ne_eqb, not-true, not_from_false, or_parts}
+use Rattle.std.proofs.lemmas.List.{append-nil}
+use Rattle.std.proofs.lemmas.Str.Ascii.{IsAscii-cons, IsAscii-nil}
+use Rattle.std.proofs.lemmas.Str.{IsUtf8-append, IsUtf8-from_ascii, IsUtf8-nil, chars-IsAscii, chars-append, chars-nil, encodes-IsAscii}
+use Rattle.std.specs.Char.{encode_utf8}
+use Rattle.std.specs.List.{flat_map, list_all}
+use Rattle.std.specs.Prelude.{codes, nat_abs, not, suc}
+use Rattle.std.specs.Str.{IsAscii, IsUtf8, chars, encode_utf8_all}
 
 -- what is true of a value that was read
 abbrev pub IsReadable : Arg → Type 0

@@ -1,14 +1,14 @@
 -- Quoted strings, one character after the other.
-use Rattle.std.proofs.Common.{◌≡◌, ℕ, List, [], ◌∷◌, ◌++◌, Option, Some, None, refl, ap, sym, ◌∙◌, append_assoc}
-use Rattle.std.proofs.lemmas.List.{append-nil}
-use Rattle.std.specs.Char.{encode_utf8}
 use Rattle.cd_conf.specs.Blanks.{line_after}
 use Rattle.cd_conf.specs.Position.{Position, at}
-use Rattle.cd_conf.specs.Quotes.{role_of, by_role, with_text, quoted_from}
-use Rattle.cd_conf.specs.declared.quotes.Quoting.{Quoting}
+use Rattle.cd_conf.specs.Quotes.{by_role, quoted_from, role_of, with_text}
 use Rattle.cd_conf.specs.declared.quotes.Quoting.TheVariants.{Inside}
+use Rattle.cd_conf.specs.declared.quotes.Quoting.{Quoting}
+use Rattle.cd_conf.specs.declared.quotes.Role.TheVariants.{Break, Close, Letter, Mark}
 use Rattle.cd_conf.specs.declared.quotes.Role.{Role}
-use Rattle.cd_conf.specs.declared.quotes.Role.TheVariants.{Close, Break, Mark, Letter}
+use Rattle.std.proofs.Common.{List, None, Option, Some, [], ap, append_assoc, refl, sym, ℕ, ◌++◌, ◌∙◌, ◌∷◌, ◌≡◌}
+use Rattle.std.proofs.lemmas.List.{append-nil}
+use Rattle.std.specs.Char.{encode_utf8}
 
 -- a quoted string, one character opened
 pub opened : (text rest cs : List ℕ) (c line : ℕ) (quoting : Quoting) (role : Role) → rest ≡ c ∷ cs → role_of quoting c ≡ role

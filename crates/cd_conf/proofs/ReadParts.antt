@@ -1,14 +1,7 @@
 -- What is true of the statements that were read.
-use Rattle.std.proofs.Common.{◌≡◌, ℕ, zero, suc, ◌+◌, ◌≤◌, ◌==◌, ◌&&◌, List, [], ◌∷◌, ◌++◌, length, Bool, true, false, Option, Some, None, Result, Ok, Err, if◌then◌else◌, refl, sym, ap, subst, ◌∙◌, arith}
-use Rattle.std.specs.Prelude.{nat_abs, nat_le, not}
-use Rattle.std.specs.Char.{encode_utf8}
-use Rattle.std.specs.List.{list_all}
-use Rattle.std.specs.Str.{chars, encode_utf8_all}
-use Rattle.std.specs.Str.Parse.{starts_with_minus, without_leading_sign}
-use Rattle.std.proofs.Math.Utf8.{scalar, scalars}
-use Rattle.std.proofs.lemmas.Bool.{and_from, and_parts, ne_eqb, not_from_false}
-use Rattle.std.proofs.lemmas.Str.{IsUtf8-from_ascii, chars-IsAscii, chars-encodes, encodes-IsAscii}
-use Rattle.cd_reading.specs.First.{◌>>=◌}
+use Rattle.cd_conf.proofs.CharacterRuns.{front_more, front_none}
+use Rattle.cd_conf.proofs.Magnitudes.{within}
+use Rattle.cd_conf.proofs.PrintedValues.{AllReadable, IsReadable, passes_apart, word_is_ascii}
 use Rattle.cd_conf.specs.Blanks.{after_blanks, behind_blanks, is_blank, is_newline, line_after, skip_while}
 use Rattle.cd_conf.specs.Characters.{after_run, front_run, is_in_word, may_stand}
 use Rattle.cd_conf.specs.Numbers.{Digits, at_most, digits_of, is_false_word, is_true_word, magnitude, millionths, millionths_limit, number_arg, plain_arg, with_sign, word_arg}
@@ -17,18 +10,25 @@ use Rattle.cd_conf.specs.Quotes.{by_role, is_one_line, quoted_at, quoted_from, r
 use Rattle.cd_conf.specs.Repeated.{go_on, repeated}
 use Rattle.cd_conf.specs.Values.{quoted_arg, some_value, value_at, value_from, word_at}
 use Rattle.cd_conf.specs.declared.fault.ConfFault.{ConfFault}
+use Rattle.cd_conf.specs.declared.item.Arg.TheVariants.{Flag, Number, Words}
 use Rattle.cd_conf.specs.declared.item.Arg.{Arg}
-use Rattle.cd_conf.specs.declared.item.Arg.TheVariants.{Words, Number, Flag}
 use Rattle.cd_conf.specs.declared.limits.TheConstants.{DECIMALS_LIMIT}
+use Rattle.cd_conf.specs.declared.quotes.Quoting.TheVariants.{Escaped, Inside, Joined}
 use Rattle.cd_conf.specs.declared.quotes.Quoting.{Quoting}
-use Rattle.cd_conf.specs.declared.quotes.Quoting.TheVariants.{Inside, Escaped, Joined}
-use Rattle.cd_conf.specs.declared.quotes.Role.{Role}
 use Rattle.cd_conf.specs.declared.quotes.Role.TheVariants.{Break, Close, Letter, Mark}
-use Rattle.cd_conf.specs.declared.runs.Kind.{Kind}
+use Rattle.cd_conf.specs.declared.quotes.Role.{Role}
 use Rattle.cd_conf.specs.declared.runs.Kind.TheVariants.{Word}
-use Rattle.cd_conf.proofs.CharacterRuns.{front_more, front_none}
-use Rattle.cd_conf.proofs.Magnitudes.{within}
-use Rattle.cd_conf.proofs.PrintedValues.{AllReadable, IsReadable, passes_apart, word_is_ascii}
+use Rattle.cd_conf.specs.declared.runs.Kind.{Kind}
+use Rattle.cd_reading.specs.First.{◌>>=◌}
+use Rattle.std.proofs.Common.{Bool, Err, List, None, Ok, Option, Result, Some, [], ap, arith, false, if◌then◌else◌, length, refl, subst, suc, sym, true, zero, ℕ, ◌&&◌, ◌++◌, ◌+◌, ◌==◌, ◌∙◌, ◌∷◌, ◌≡◌, ◌≤◌}
+use Rattle.std.proofs.Math.Utf8.{scalar, scalars}
+use Rattle.std.proofs.lemmas.Bool.{and_from, and_parts, ne_eqb, not_from_false}
+use Rattle.std.proofs.lemmas.Str.{IsUtf8-from_ascii, chars-IsAscii, chars-encodes, encodes-IsAscii}
+use Rattle.std.specs.Char.{encode_utf8}
+use Rattle.std.specs.List.{list_all}
+use Rattle.std.specs.Prelude.{nat_abs, nat_le, not}
+use Rattle.std.specs.Str.Parse.{starts_with_minus, without_leading_sign}
+use Rattle.std.specs.Str.{chars, encode_utf8_all}
 
 -- ---- results
 

@@ -1,12 +1,9 @@
 -- The statements that were read can be read again.
-use Rattle.std.proofs.Common.{◌≡◌, ℕ, zero, suc, ◌+◌, ◌<◌, ◌≤◌, ◌==◌, List, [], ◌∷◌, ◌++◌, length, Bool, true, false, Option, Some, None, Result, Ok, Err, if◌then◌else◌, refl, sym, ap, subst, ◌∙◌, arith}
-use Rattle.std.specs.Prelude.{nat_le, nat_lt, not}
-use Rattle.std.specs.List.{list_all}
-use Rattle.std.specs.Str.{chars, is_utf8, str_eq_ignore_ascii_case}
-use Rattle.std.proofs.Math.Utf8.{scalar, scalars}
-use Rattle.std.proofs.lemmas.Bool.{and_parts, leb-false, ltb-true}
-use Rattle.std.proofs.lemmas.Str.{IsUtf8-from_is_utf8, encodes-IsAscii, scalars-chars}
-use Rattle.cd_reading.specs.First.{unless}
+use Rattle.cd_conf.proofs.PrintedItems.{indent_in, items_are_written, written}
+use Rattle.cd_conf.proofs.PrintedLines.{IsKey, key_ascii}
+use Rattle.cd_conf.proofs.PrintedTexts.{AreReadable, as_many, keys_of, written_reads}
+use Rattle.cd_conf.proofs.PrintedValues.{AllReadable}
+use Rattle.cd_conf.proofs.ReadParts.{Good, Run, blanks_scalars, bound, found_same, ok_same, run_is, skip_scalars, values_good}
 use Rattle.cd_conf.specs.Blanks.{behind_blanks, is_line_end, is_newline, line_behind_newline, next_line, skip_while}
 use Rattle.cd_conf.specs.Canonical.{end_text, option_text, start_text}
 use Rattle.cd_conf.specs.Characters.{after_run, front_run, is_in_key, may_stand}
@@ -20,16 +17,19 @@ use Rattle.cd_conf.specs.Values.{values_at}
 use Rattle.cd_conf.specs.declared.fault.ConfFault.{ConfFault}
 use Rattle.cd_conf.specs.declared.fault.ConfKind.TheVariants.{BadValue, NotText, TooDeep, TooLong, WrongEnd}
 use Rattle.cd_conf.specs.declared.head.Head.{Head}
-use Rattle.cd_conf.specs.declared.head.LineKind.{LineKind}
 use Rattle.cd_conf.specs.declared.head.LineKind.TheVariants.{OptionLine, SectionEnd, SectionStart}
+use Rattle.cd_conf.specs.declared.head.LineKind.{LineKind}
 use Rattle.cd_conf.specs.declared.item.Arg.{Arg}
 use Rattle.cd_conf.specs.declared.limits.TheConstants.{FILE_LIMIT, NESTING_LIMIT}
 use Rattle.cd_conf.specs.declared.runs.Kind.TheVariants.{Key}
-use Rattle.cd_conf.proofs.PrintedItems.{indent_in, items_are_written, written}
-use Rattle.cd_conf.proofs.PrintedLines.{IsKey, key_ascii}
-use Rattle.cd_conf.proofs.PrintedTexts.{AreReadable, as_many, keys_of, written_reads}
-use Rattle.cd_conf.proofs.PrintedValues.{AllReadable}
-use Rattle.cd_conf.proofs.ReadParts.{Good, Run, blanks_scalars, bound, found_same, ok_same, run_is, skip_scalars, values_good}
+use Rattle.cd_reading.specs.First.{unless}
+use Rattle.std.proofs.Common.{Bool, Err, List, None, Ok, Option, Result, Some, [], ap, arith, false, if◌then◌else◌, length, refl, subst, suc, sym, true, zero, ℕ, ◌++◌, ◌+◌, ◌<◌, ◌==◌, ◌∙◌, ◌∷◌, ◌≡◌, ◌≤◌}
+use Rattle.std.proofs.Math.Utf8.{scalar, scalars}
+use Rattle.std.proofs.lemmas.Bool.{and_parts, leb-false, ltb-true}
+use Rattle.std.proofs.lemmas.Str.{IsUtf8-from_is_utf8, encodes-IsAscii, scalars-chars}
+use Rattle.std.specs.List.{list_all}
+use Rattle.std.specs.Prelude.{nat_le, nat_lt, not}
+use Rattle.std.specs.Str.{chars, is_utf8, str_eq_ignore_ascii_case}
 
 -- ---- heads
 

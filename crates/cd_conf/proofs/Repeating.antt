@@ -1,9 +1,9 @@
 -- A step that is taken again and again, one time after the other.
-use Rattle.std.proofs.Common.{◌≡◌, ℕ, zero, suc, ◌<◌, List, [], ◌++◌, Result, Ok, Err, Option, Some, None, refl, sym, ap, ◌∙◌, append_assoc, arith}
-use Rattle.std.proofs.lemmas.List.{append-nil}
+use Rattle.cd_conf.specs.Repeated.{go_on, in_front, repeated}
 use Rattle.cd_reading.specs.First.{◌>>=◌}
 use Rattle.cd_reading.specs.Gives.{Refuses}
-use Rattle.cd_conf.specs.Repeated.{go_on, in_front, repeated}
+use Rattle.std.proofs.Common.{Err, List, None, Ok, Option, Result, Some, [], ap, append_assoc, arith, refl, suc, sym, zero, ℕ, ◌++◌, ◌<◌, ◌∙◌, ◌≡◌}
+use Rattle.std.proofs.lemmas.List.{append-nil}
 
 -- what was given so far, and what the state that was reached gives, are all that is given
 pub record Going {S A F : Type 0} (size : S → ℕ) (step : S → Result (Option (List A × S)) F) (front : List A) (s : S) (total : Result (List A × S) F) : Type 0 where

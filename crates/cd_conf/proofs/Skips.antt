@@ -1,6 +1,6 @@
 -- What is left behind characters that are passed over.
-use Rattle.std.proofs.Common.{◌≡◌, ◌≤◌, ℕ, List, [], ◌∷◌, Bool, true, false, length, refl, arith}
 use Rattle.cd_conf.specs.Blanks.{skip_while}
+use Rattle.std.proofs.Common.{Bool, List, [], arith, false, length, refl, true, ℕ, ◌∷◌, ◌≡◌, ◌≤◌}
 
 pub skipped : (p : ℕ → Bool) (cs : List ℕ) → length (skip_while p cs) ≤ length cs
 unfolding skip_while

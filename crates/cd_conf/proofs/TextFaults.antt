@@ -1,13 +1,6 @@
 -- No text has the fault of a source.
-use Rattle.std.proofs.Common.{◌≡◌, ◌==◌, ◌∷◌, [], ℕ, zero, suc, List, Bool, true, false, Result, Ok, Err, IfErr, Option, Some, None, if◌then◌else◌, refl, sym, ap, subst, ◌∙◌, length}
-use Rattle.std.specs.Str.{chars, is_utf8, str_eq_ignore_ascii_case}
-use Rattle.std.specs.Str.Parse.{starts_with_minus, without_leading_sign}
-use Rattle.std.specs.Prelude.{nat_le, nat_lt}
-use Rattle.cd_reading.specs.First.{◌>>=◌, unless}
-use Rattle.cd_reading.specs.Gives.{Gives, Refuses}
 use Rattle.cd_conf.specs.Blanks.{behind_blanks, is_line_end, next_line}
 use Rattle.cd_conf.specs.Characters.{after_run, front_run, is_in_word}
-use Rattle.cd_conf.specs.declared.runs.Kind.TheVariants.{Word}
 use Rattle.cd_conf.specs.Faults.{conf_fault, fault_at, is_read_fault, is_read_kind, text_fault, unless_memory}
 use Rattle.cd_conf.specs.Numbers.{Digits, digits_of, is_false_word, is_true_word, magnitude, number_arg, plain_arg, word_arg}
 use Rattle.cd_conf.specs.Position.{Position, at}
@@ -16,14 +9,21 @@ use Rattle.cd_conf.specs.Repeated.{go_on, in_front, repeated}
 use Rattle.cd_conf.specs.Statements.{Open, Stand, Statement, bad_line, close_here, closed, closed_by, head_at, line_at, line_behind, line_end, line_from, open_behind, stand, statement_behind, statement_from, statements_at, statements_of_text, values_behind}
 use Rattle.cd_conf.specs.Values.{quoted_arg, some_value, value_at, value_from, values_at, word_at}
 use Rattle.cd_conf.specs.declared.fault.ConfFault.{ConfFault}
-use Rattle.cd_conf.specs.declared.fault.ConfKind.{ConfKind}
 use Rattle.cd_conf.specs.declared.fault.ConfKind.TheVariants as kinds
+use Rattle.cd_conf.specs.declared.fault.ConfKind.{ConfKind}
 use Rattle.cd_conf.specs.declared.head.Head.{Head}
+use Rattle.cd_conf.specs.declared.head.LineKind.TheVariants.{OptionLine, SectionEnd, SectionStart}
 use Rattle.cd_conf.specs.declared.head.LineKind.{LineKind}
-use Rattle.cd_conf.specs.declared.head.LineKind.TheVariants.{OptionLine, SectionStart, SectionEnd}
-use Rattle.cd_conf.specs.declared.item.Arg.{Arg}
 use Rattle.cd_conf.specs.declared.item.Arg.TheVariants.{Flag}
+use Rattle.cd_conf.specs.declared.item.Arg.{Arg}
 use Rattle.cd_conf.specs.declared.limits.TheConstants.{FILE_LIMIT, NESTING_LIMIT}
+use Rattle.cd_conf.specs.declared.runs.Kind.TheVariants.{Word}
+use Rattle.cd_reading.specs.First.{unless, ◌>>=◌}
+use Rattle.cd_reading.specs.Gives.{Gives, Refuses}
+use Rattle.std.proofs.Common.{Bool, Err, IfErr, List, None, Ok, Option, Result, Some, [], ap, false, if◌then◌else◌, length, refl, subst, suc, sym, true, zero, ℕ, ◌==◌, ◌∙◌, ◌∷◌, ◌≡◌}
+use Rattle.std.specs.Prelude.{nat_le, nat_lt}
+use Rattle.std.specs.Str.Parse.{starts_with_minus, without_leading_sign}
+use Rattle.std.specs.Str.{chars, is_utf8, str_eq_ignore_ascii_case}
 
 -- a source's fault isn't what was read
 pub record IsOfText {A : Type 0} (r : Result A ConfFault) : Type 0 where

@@ -1,12 +1,12 @@
 -- The text of a section.
-use Rattle.std.proofs.Common.{◌≡◌, ℕ, ◌≤◌, Bool, true, List, ◌++◌, length, take, Result, Ok, Err, OnOk, sym, ap, ◌∙◌, append_assoc, if◌then◌else◌}
-use Rattle.std.specs.List.{flat_map}
-use Rattle.std.proofs.lemmas.List.{take_all}
-use Rattle.std.proofs.lemmas.List.Folds.{flat_map-map}
-use Rattle.cd_conf.specs.declared.item.Item.{Item}
-use Rattle.cd_conf.specs.declared.item.Item.TheFolds.{fold_out-Item}
+use Rattle.cd_conf.specs.Canonical.{deeper, end_text, item_text, option_text, start_text, text_step}
 use Rattle.cd_conf.specs.Parts.{args_of, children_of, is_section, key_of}
-use Rattle.cd_conf.specs.Canonical.{deeper, end_text, text_step, item_text, option_text, start_text}
+use Rattle.cd_conf.specs.declared.item.Item.TheFolds.{fold_out-Item}
+use Rattle.cd_conf.specs.declared.item.Item.{Item}
+use Rattle.std.proofs.Common.{Bool, Err, List, Ok, OnOk, Result, ap, append_assoc, if◌then◌else◌, length, sym, take, true, ℕ, ◌++◌, ◌∙◌, ◌≡◌, ◌≤◌}
+use Rattle.std.proofs.lemmas.List.Folds.{flat_map-map}
+use Rattle.std.proofs.lemmas.List.{take_all}
+use Rattle.std.specs.List.{flat_map}
 
 pub on_ok : {A E : Type 0} (r : Result A E) {P Q : Type 0} → (P → Q) → OnOk r P → OnOk r Q
 on_ok (Ok x) f h = f h

@@ -1,6 +1,6 @@
 -- Blanks, comments and the ends of lines.
-use Rattle.std.specs.Prelude.{ℕ, ◌+◌, ◌==◌, ◌&&◌, ◌||◌, List, [], ◌∷◌, Bool, true, not, Option, Some, None, if◌then◌else◌}
 use Rattle.cd_conf.specs.Position.{Position, at}
+use Rattle.std.specs.Prelude.{Bool, List, None, Option, Some, [], if◌then◌else◌, not, true, ℕ, ◌&&◌, ◌+◌, ◌==◌, ◌||◌, ◌∷◌}
 
 -- the line after a character
 abbrev pub line_after : ℕ → ℕ → ℕ

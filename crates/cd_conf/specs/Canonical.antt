@@ -1,16 +1,16 @@
 -- The canonical text of items.
-use Rattle.std.specs.Prelude.{ℕ, suc, zero, ◌/◌, ◌%◌, ◌^◌, ◌==◌, if◌then◌else◌, List, [], ◌∷◌, ◌++◌, codes, ℤ, pos, negsuc}
-use Rattle.std.specs.Fmt.{decimal}
-use Rattle.std.specs.List.{flat_map}
+use Rattle.cd_conf.specs.declared.item.Arg.TheVariants.{Flag, Number, Words}
+use Rattle.cd_conf.specs.declared.item.Arg.{Arg}
+use Rattle.cd_conf.specs.declared.item.Item.TheFolds.{fold-Item}
+use Rattle.cd_conf.specs.declared.item.Item.TheOpen.{Item-F}
+use Rattle.cd_conf.specs.declared.item.Item.{Item}
+use Rattle.cd_conf.specs.declared.limits.TheConstants.{DECIMALS_LIMIT}
 use Rattle.cd_text.specs.Quoting.{quoted_of}
 use Rattle.cd_value.specs.Print.{digit}
 use Rattle.cd_value.specs.declared.numbers.TheConstants.{MILLIONTHS}
-use Rattle.cd_conf.specs.declared.limits.TheConstants.{DECIMALS_LIMIT}
-use Rattle.cd_conf.specs.declared.item.Arg.{Arg}
-use Rattle.cd_conf.specs.declared.item.Arg.TheVariants.{Words, Number, Flag}
-use Rattle.cd_conf.specs.declared.item.Item.{Item}
-use Rattle.cd_conf.specs.declared.item.Item.TheOpen.{Item-F}
-use Rattle.cd_conf.specs.declared.item.Item.TheFolds.{fold-Item}
+use Rattle.std.specs.Fmt.{decimal}
+use Rattle.std.specs.List.{flat_map}
+use Rattle.std.specs.Prelude.{List, [], codes, if◌then◌else◌, negsuc, pos, suc, zero, ℕ, ℤ, ◌%◌, ◌++◌, ◌/◌, ◌==◌, ◌^◌, ◌∷◌}
 
 -- so many decimals of a number below 1, given in units of the last; no zero at the end
 unfoldable pub decimals : ℕ → ℕ → List ℕ

@@ -1,10 +1,10 @@
 -- The characters of keys and words.
-use Rattle.std.specs.Prelude.{ℕ, ◌==◌, ◌||◌, List, Bool, encode_utf8_all}
-use Rattle.std.specs.List.{take_while}
-use Rattle.std.specs.Char.{is_ascii_alphanumeric}
 use Rattle.cd_conf.specs.Blanks.{skip_while}
-use Rattle.cd_conf.specs.declared.runs.Kind.{Kind}
 use Rattle.cd_conf.specs.declared.runs.Kind.TheVariants.{Key, Word}
+use Rattle.cd_conf.specs.declared.runs.Kind.{Kind}
+use Rattle.std.specs.Char.{is_ascii_alphanumeric}
+use Rattle.std.specs.List.{take_while}
+use Rattle.std.specs.Prelude.{Bool, List, encode_utf8_all, ℕ, ◌==◌, ◌||◌}
 
 -- letters, digits and _
 abbrev pub is_in_key : ℕ → Bool

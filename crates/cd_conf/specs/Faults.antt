@@ -1,10 +1,10 @@
 -- Faults and their lines.
-use Rattle.std.specs.Prelude.{ℕ, ◌==◌, Bool, true, false, Result, Ok, Err, Option, Some, None, if◌then◌else◌}
 use Rattle.cd_conf.specs.declared.fault.ConfFault.{ConfFault}
-use Rattle.cd_conf.specs.declared.fault.ConfKind.{ConfKind}
 use Rattle.cd_conf.specs.declared.fault.ConfKind.TheVariants.{Memory, ReadFault, TooLong}
-use Rattle.cd_io.specs.declared.source.ReadAllFault.{ReadAllFault}
+use Rattle.cd_conf.specs.declared.fault.ConfKind.{ConfKind}
 use Rattle.cd_io.specs.declared.source.ReadAllFault.TheVariants as source
+use Rattle.cd_io.specs.declared.source.ReadAllFault.{ReadAllFault}
+use Rattle.std.specs.Prelude.{Bool, Err, None, Ok, Option, Result, Some, false, if◌then◌else◌, true, ℕ, ◌==◌}
 
 abbrev pub fault_at : ConfKind → ℕ → ConfFault
 fault_at kind line = record { kind = kind; line = line }

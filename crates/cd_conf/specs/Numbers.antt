@@ -1,17 +1,17 @@
 -- Words that are numbers or flags.
-use Rattle.std.specs.Prelude.{ℕ, ◌*◌, ◌-◌, ◌^◌, ◌==◌, ◌&&◌, ◌||◌, List, [], length, drop, Bool, true, false, nat_lt, nat_le, Option, Some, None, Result, Ok, Err, if◌then◌else◌, ℤ, pos, neg_ℤ, slice_index, codes, unwrap_or}
-use Rattle.std.specs.List.{before_first, list_all, position}
-use Rattle.std.specs.Char.{is_digit}
-use Rattle.std.specs.Str.{str_eq_ignore_ascii_case}
-use Rattle.std.specs.Str.Parse.{digits_value, digits_value_after, without_leading_sign, starts_with_minus}
-use Rattle.cd_text.specs.Digits.{after_place, is_dot}
 use Rattle.cd_conf.specs.Faults.{fault_at}
-use Rattle.cd_conf.specs.declared.limits.TheConstants.{DECIMALS_LIMIT, NUMBER_LIMIT}
-use Rattle.cd_conf.specs.declared.item.Arg.{Arg}
-use Rattle.cd_conf.specs.declared.item.Arg.TheVariants.{Words, Number, Flag}
 use Rattle.cd_conf.specs.declared.fault.ConfFault.{ConfFault}
 use Rattle.cd_conf.specs.declared.fault.ConfKind.TheVariants.{BadValue}
+use Rattle.cd_conf.specs.declared.item.Arg.TheVariants.{Flag, Number, Words}
+use Rattle.cd_conf.specs.declared.item.Arg.{Arg}
+use Rattle.cd_conf.specs.declared.limits.TheConstants.{DECIMALS_LIMIT, NUMBER_LIMIT}
+use Rattle.cd_text.specs.Digits.{after_place, is_dot}
 use Rattle.cd_value.specs.declared.numbers.TheConstants.{MILLIONTHS}
+use Rattle.std.specs.Char.{is_digit}
+use Rattle.std.specs.List.{before_first, list_all, position}
+use Rattle.std.specs.Prelude.{Bool, Err, List, None, Ok, Option, Result, Some, [], codes, drop, false, if◌then◌else◌, length, nat_le, nat_lt, neg_ℤ, pos, slice_index, true, unwrap_or, ℕ, ℤ, ◌&&◌, ◌*◌, ◌-◌, ◌==◌, ◌^◌, ◌||◌}
+use Rattle.std.specs.Str.Parse.{digits_value, digits_value_after, starts_with_minus, without_leading_sign}
+use Rattle.std.specs.Str.{str_eq_ignore_ascii_case}
 
 abbrev pub all_digits : ℕ → List ℕ → Bool
 all_digits base ds = list_all (λ c. is_digit c base) ds

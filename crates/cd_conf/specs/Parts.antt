@@ -1,7 +1,7 @@
 -- The parts of an item.
-use Rattle.std.specs.Prelude.{ℕ, Bool, List}
 use Rattle.cd_conf.specs.declared.item.Arg.{Arg}
 use Rattle.cd_conf.specs.declared.item.Item.{Item, out-Item}
+use Rattle.std.specs.Prelude.{Bool, List, ℕ}
 
 abbrev pub key_of : Item → List ℕ
 key_of item = (out-Item item).key

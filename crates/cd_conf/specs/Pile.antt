@@ -1,12 +1,12 @@
 -- What has been read, with sections that are still open.
-use Rattle.std.specs.Prelude.{◌≡◌, ℕ, List, [], ◌∷◌, ◌++◌, map, reverse, Result, Ok, Option, Some}
-use Rattle.std.specs.List.{flat_map}
 use Rattle.cd_conf.specs.Position.{Position}
-use Rattle.cd_conf.specs.Statements.{Open, Stand, Statement, StartOf, stand}
+use Rattle.cd_conf.specs.Statements.{Open, Stand, StartOf, Statement, stand}
 use Rattle.cd_conf.specs.Tree.{statements_of_items}
 use Rattle.cd_conf.specs.declared.fault.ConfFault.{ConfFault}
 use Rattle.cd_conf.specs.declared.pile.OpenSection.{OpenSection}
 use Rattle.cd_conf.specs.declared.pile.Pile.{Pile}
+use Rattle.std.specs.List.{flat_map}
+use Rattle.std.specs.Prelude.{List, Ok, Option, Result, Some, [], map, reverse, ℕ, ◌++◌, ◌∷◌, ◌≡◌}
 
 abbrev pub open_section : List ℕ → ℕ → Open
 open_section key line = record { key = key; line = line }

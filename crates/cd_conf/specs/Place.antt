@@ -1,8 +1,8 @@
 -- A place in a text.
-use Rattle.std.specs.Prelude.{ℕ, length}
-use Rattle.std.specs.Str.{chars}
 use Rattle.cd_conf.specs.Position.{Position}
 use Rattle.cd_conf.specs.declared.place.Place.{Place}
+use Rattle.std.specs.Prelude.{length, ℕ}
+use Rattle.std.specs.Str.{chars}
 
 -- the line of a place, and the characters that follow
 abbrev pub position : Place → Position

@@ -1,5 +1,5 @@
 -- A position in a text.
-use Rattle.std.specs.Prelude.{ℕ, List}
+use Rattle.std.specs.Prelude.{List, ℕ}
 
 -- a line, and the characters that follow from a place in it on
 pub record Position : Type 0 where

@@ -1,12 +1,12 @@
 -- Quoted strings.
-use Rattle.std.specs.Prelude.{ℕ, ◌==◌, List, [], ◌∷◌, ◌++◌, Bool, not, Option, Some, None, if◌then◌else◌, encode_utf8}
 use Rattle.cd_conf.specs.Blanks.{is_blank, is_newline, line_after}
-use Rattle.std.specs.List.{list_all}
 use Rattle.cd_conf.specs.Position.{Position, at}
+use Rattle.cd_conf.specs.declared.quotes.Quoting.TheVariants.{Escaped, Inside, Joined}
 use Rattle.cd_conf.specs.declared.quotes.Quoting.{Quoting}
-use Rattle.cd_conf.specs.declared.quotes.Quoting.TheVariants.{Inside, Escaped, Joined}
+use Rattle.cd_conf.specs.declared.quotes.Role.TheVariants.{Break, Close, Letter, Mark}
 use Rattle.cd_conf.specs.declared.quotes.Role.{Role}
-use Rattle.cd_conf.specs.declared.quotes.Role.TheVariants.{Close, Break, Mark, Letter}
+use Rattle.std.specs.List.{list_all}
+use Rattle.std.specs.Prelude.{Bool, List, None, Option, Some, [], encode_utf8, if◌then◌else◌, not, ℕ, ◌++◌, ◌==◌, ◌∷◌}
 
 -- what a character is that stands behind no backslash
 abbrev pub inner_role : ℕ → Role

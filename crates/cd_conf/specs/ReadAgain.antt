@@ -1,10 +1,10 @@
 -- What is read of the canonical text of items.
-use Rattle.std.specs.Prelude.{◌≡◌, ◌≤◌, ℕ, ◌+◌, List, [], ◌∷◌, length, Ok}
 use Rattle.cd_conf.specs.Canonical.{items_text}
 use Rattle.cd_conf.specs.Statements.{End, OptionOf, StartOf, Statement, Stray, statements_of_text}
 use Rattle.cd_conf.specs.Tree.{IsTreeOf, statements_of_items}
 use Rattle.cd_conf.specs.declared.item.Item.{Item}
 use Rattle.cd_conf.specs.declared.limits.TheConstants.{FILE_LIMIT}
+use Rattle.std.specs.Prelude.{List, Ok, [], length, ℕ, ◌+◌, ◌∷◌, ◌≡◌, ◌≤◌}
 
 -- statements one a line, from a line on
 abbrev pub numbered : ℕ → List Statement → List Statement

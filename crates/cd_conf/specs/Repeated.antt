@@ -1,6 +1,6 @@
 -- A step that is taken again and again.
-use Rattle.std.specs.Prelude.{ℕ, suc, zero, List, [], ◌++◌, Result, Ok, Option, Some, None}
 use Rattle.cd_reading.specs.First.{◌>>=◌}
+use Rattle.std.specs.Prelude.{List, None, Ok, Option, Result, Some, [], suc, zero, ℕ, ◌++◌}
 
 -- what was given, and where it went on, with more in front
 abbrev pub in_front : {A S F : Type 0} → List A → Result (List A × S) F → Result (List A × S) F

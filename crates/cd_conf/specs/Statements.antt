@@ -1,22 +1,22 @@
 -- The options, section starts and section ends of a text, and how sections nest.
-use Rattle.std.specs.Prelude.{ℕ, suc, ◌+◌, ◌==◌, List, [], ◌∷◌, length, take, count_by, nat_le, nat_lt, Result, Ok, Err, Option, Some, None, if◌then◌else◌}
-use Rattle.std.specs.Str.{chars, is_utf8, str_eq_ignore_ascii_case}
-use Rattle.std.specs.Str.Lossy.{utf8_valid_len}
-use Rattle.cd_reading.specs.First.{◌>>=◌, unless}
 use Rattle.cd_conf.specs.Blanks.{behind_blanks, is_line_end, is_newline, next_line}
 use Rattle.cd_conf.specs.Characters.{after_run, front_run}
 use Rattle.cd_conf.specs.Faults.{fault_at}
 use Rattle.cd_conf.specs.Position.{Position, at}
 use Rattle.cd_conf.specs.Repeated.{repeated}
 use Rattle.cd_conf.specs.Values.{values_at}
-use Rattle.cd_conf.specs.declared.limits.TheConstants.{FILE_LIMIT, NESTING_LIMIT}
 use Rattle.cd_conf.specs.declared.fault.ConfFault.{ConfFault}
 use Rattle.cd_conf.specs.declared.fault.ConfKind.TheVariants.{BadKey, BadValue, NotText, TooDeep, TooLong, UnclosedSection, WrongEnd}
 use Rattle.cd_conf.specs.declared.head.Head.{Head}
+use Rattle.cd_conf.specs.declared.head.LineKind.TheVariants.{OptionLine, SectionEnd, SectionStart}
 use Rattle.cd_conf.specs.declared.head.LineKind.{LineKind}
-use Rattle.cd_conf.specs.declared.head.LineKind.TheVariants.{OptionLine, SectionStart, SectionEnd}
 use Rattle.cd_conf.specs.declared.item.Arg.{Arg}
+use Rattle.cd_conf.specs.declared.limits.TheConstants.{FILE_LIMIT, NESTING_LIMIT}
 use Rattle.cd_conf.specs.declared.runs.Kind.TheVariants.{Key}
+use Rattle.cd_reading.specs.First.{unless, ◌>>=◌}
+use Rattle.std.specs.Prelude.{Err, List, None, Ok, Option, Result, Some, [], count_by, if◌then◌else◌, length, nat_le, nat_lt, suc, take, ℕ, ◌+◌, ◌==◌, ◌∷◌}
+use Rattle.std.specs.Str.Lossy.{utf8_valid_len}
+use Rattle.std.specs.Str.{chars, is_utf8, str_eq_ignore_ascii_case}
 
 -- ---- what begins a line
 

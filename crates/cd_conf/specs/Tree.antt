@@ -1,10 +1,10 @@
 -- The statements that a tree of items writes out.
-use Rattle.std.specs.Prelude.{ℕ, ◌≡◌, Ok, List, [], ◌∷◌, ◌++◌, if◌then◌else◌}
-use Rattle.std.specs.List.{flat_map}
-use Rattle.cd_conf.specs.Statements.{Statement, OptionOf, StartOf, End, Stray, statements_of_text}
-use Rattle.cd_conf.specs.declared.item.Item.{Item}
-use Rattle.cd_conf.specs.declared.item.Item.TheOpen.{Item-F}
+use Rattle.cd_conf.specs.Statements.{End, OptionOf, StartOf, Statement, Stray, statements_of_text}
 use Rattle.cd_conf.specs.declared.item.Item.TheFolds.{fold-Item}
+use Rattle.cd_conf.specs.declared.item.Item.TheOpen.{Item-F}
+use Rattle.cd_conf.specs.declared.item.Item.{Item}
+use Rattle.std.specs.List.{flat_map}
+use Rattle.std.specs.Prelude.{List, Ok, [], if◌then◌else◌, ℕ, ◌++◌, ◌∷◌, ◌≡◌}
 
 abbrev pub joined : List (List Statement) → List Statement
 joined parts = flat_map (λ part. part) parts

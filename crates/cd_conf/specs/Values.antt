@@ -1,6 +1,4 @@
 -- The values of a line, and its end.
-use Rattle.std.specs.Prelude.{ℕ, suc, ◌==◌, List, [], ◌∷◌, length, Result, Ok, Err, Option, Some, None, if◌then◌else◌}
-use Rattle.cd_reading.specs.First.{◌>>=◌}
 use Rattle.cd_conf.specs.Blanks.{behind_blanks}
 use Rattle.cd_conf.specs.Characters.{after_run, front_run, is_in_word}
 use Rattle.cd_conf.specs.Faults.{fault_at}
@@ -10,9 +8,11 @@ use Rattle.cd_conf.specs.Quotes.{quoted_at}
 use Rattle.cd_conf.specs.Repeated.{repeated}
 use Rattle.cd_conf.specs.declared.fault.ConfFault.{ConfFault}
 use Rattle.cd_conf.specs.declared.fault.ConfKind.TheVariants.{Unterminated}
-use Rattle.cd_conf.specs.declared.item.Arg.{Arg}
 use Rattle.cd_conf.specs.declared.item.Arg.TheVariants.{Words}
+use Rattle.cd_conf.specs.declared.item.Arg.{Arg}
 use Rattle.cd_conf.specs.declared.runs.Kind.TheVariants.{Word}
+use Rattle.cd_reading.specs.First.{◌>>=◌}
+use Rattle.std.specs.Prelude.{Err, List, None, Ok, Option, Result, Some, [], if◌then◌else◌, length, suc, ℕ, ◌==◌, ◌∷◌}
 
 -- a quoted string that begins in a line, and the position behind the blanks after it
 abbrev pub quoted_arg : ℕ → Option (List ℕ × Position) → Result (Arg × Position) ConfFault

@@ -2,8 +2,8 @@
 ghost use Rattle.cd_conf.specs.Blanks.{behind_blanks, behind_newline, is_blank, is_line_end, line_after, next_line};
 ghost use Rattle.cd_conf.specs.Place.{characters_left, position};
 ghost use Rattle.std.specs.Option.{option_map};
+ghost use Rattle.std.specs.Prelude.{IfSome, MatchOption, [], ◌<◌, ◌∷◌, ◌≡◌, ◌≤◌};
 ghost use Rattle.std.specs.Str.{chars};
-ghost use Rattle.std.specs.Prelude.{IfSome, MatchOption, [], ◌∷◌, ◌<◌, ◌≡◌, ◌≤◌};
 
 use crate::chars::split_first;
 use crate::place::Place;

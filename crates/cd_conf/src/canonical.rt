@@ -1,33 +1,9 @@
 //! The canonical text of items.
-ghost use Rattle.cd_conf.specs.Canonical.{
-  decimals,
-  deeper,
-  end_text,
-  fraction_text,
-  head_text,
-  item_text,
-  items_text,
-  number_text,
-  option_text,
-  spaced,
-  start_text,
-  value_text,
-};
+ghost use Rattle.cd_conf.specs.Canonical.{decimals, deeper, end_text, fraction_text, head_text, item_text, items_text, number_text, option_text, spaced, start_text, value_text};
 ghost use Rattle.cd_conf.specs.Parts.{args_of, key_of};
 ghost use Rattle.cd_value.specs.Print.{digit};
 ghost use Rattle.std.specs.List.{flat_map};
-ghost use Rattle.std.specs.Prelude.{
-  IfOk,
-  OnOk,
-  [],
-  string_bytes,
-  ◌∷◌,
-  ◌++◌,
-  ◌<◌,
-  ◌^◌,
-  ◌≡◌,
-  ◌≤◌,
-};
+ghost use Rattle.std.specs.Prelude.{IfOk, OnOk, [], string_bytes, ◌++◌, ◌<◌, ◌^◌, ◌∷◌, ◌≡◌, ◌≤◌};
 
 use crate::item::{Arg, Item, Items};
 use crate::limits::DECIMALS_LIMIT;

@@ -1,5 +1,5 @@
 //! The first character of a text, and what follows it.
-ghost use Rattle.std.specs.Prelude.{IfSome, MatchOption, [], length, ◌∷◌, ◌<◌, ◌≡◌};
+ghost use Rattle.std.specs.Prelude.{IfSome, MatchOption, [], length, ◌<◌, ◌∷◌, ◌≡◌};
 ghost use Rattle.std.specs.Str.{IsUtf8, chars};
 
 /// The first character, and the text after it.

@@ -31,9 +31,11 @@ fn head_from<'a>(
     kind: LineKind,
     text: &'a str,
 ) -> Result<Option<(Head, &'a str)>, Memory>
-    ensures value { IfOk result (λ found. option_map seen_head found ≡ head_from kind (chars text.now)) }
+    ensures value { IfOk result (λ found.
+        option_map seen_head found ≡ head_from kind (chars text.now)) }
     ensures text { IfOk result (λ found. IfSome found (λ cut. IsUtf8 cut.1.now)) }
-    ensures shorter { IfOk result (λ found. IfSome found (λ cut. length cut.1.now ≤ length text.now)) }
+    ensures shorter { IfOk result (λ found.
+        IfSome found (λ cut. length cut.1.now ≤ length text.now)) }
 {
     let (key, rest) = split_run(Kind::Key, text);
     if key.is_empty() {
@@ -46,9 +48,11 @@ fn head_from<'a>(
 
 /// The head of a section's start or end, behind its `<`.
 fn section_head<'a>(alloc: Global, text: &'a str) -> Result<Option<(Head, &'a str)>, Memory>
-    ensures value { IfOk result (λ found. option_map seen_head found ≡ section_head (chars text.now)) }
+    ensures value { IfOk result (λ found.
+        option_map seen_head found ≡ section_head (chars text.now)) }
     ensures text { IfOk result (λ found. IfSome found (λ cut. IsUtf8 cut.1.now)) }
-    ensures shorter { IfOk result (λ found. IfSome found (λ cut. length cut.1.now ≤ length text.now)) }
+    ensures shorter { IfOk result (λ found.
+        IfSome found (λ cut. length cut.1.now ≤ length text.now)) }
 {
     match split_first(text) {
         None => Ok(None),
@@ -62,7 +66,8 @@ fn section_head<'a>(alloc: Global, text: &'a str) -> Result<Option<(Head, &'a st
 pub fn head_at<'a>(alloc: Global, text: &'a str) -> Result<Option<(Head, &'a str)>, Memory>
     ensures value { IfOk result (λ found. option_map seen_head found ≡ head_at (chars text.now)) }
     ensures text { IfOk result (λ found. IfSome found (λ cut. IsUtf8 cut.1.now)) }
-    ensures shorter { IfOk result (λ found. IfSome found (λ cut. length cut.1.now ≤ length text.now)) }
+    ensures shorter { IfOk result (λ found.
+        IfSome found (λ cut. length cut.1.now ≤ length text.now)) }
 {
     match split_first(text) {
         None => Ok(None),

@@ -3,11 +3,11 @@ ghost use Rattle.cd_conf.specs.Blanks.{behind_blanks};
 ghost use Rattle.cd_conf.specs.Canonical.{value_text};
 ghost use Rattle.cd_conf.specs.Position.{at};
 ghost use Rattle.cd_conf.specs.Quotes.{is_one_line};
-ghost use Rattle.cd_conf.specs.ReadAgain.{PrintIsReadAgain, PrintIsOneForm};
+ghost use Rattle.cd_conf.specs.ReadAgain.{PrintIsOneForm, PrintIsReadAgain};
 ghost use Rattle.cd_conf.specs.Tree.{EachTextHasOneTree};
 ghost use Rattle.cd_conf.specs.Values.{value_at};
 ghost use Rattle.cd_conf.specs.declared.item.Arg.TheVariants.{Words};
-ghost use Rattle.std.specs.Prelude.{IsTrue, List, [], ◌++◌, ◌∷◌, ◌≡◌, ℕ};
+ghost use Rattle.std.specs.Prelude.{IsTrue, List, [], ℕ, ◌++◌, ◌∷◌, ◌≡◌};
 ghost use Rattle.std.specs.Str.{IsUtf8, chars};
 
 /// A text that is printed as a value is read as itself, whatever follows it.
@@ -26,7 +26,7 @@ pub fn print_is_read_again()
     ensures form { PrintIsOneForm }
 {}
 
-/// A text has one tree: items that write out the same statements are the same.
+/// A text has one tree: items that write out the statements of one text are the same.
 pub fn each_text_has_one_tree()
     ensures { EachTextHasOneTree }
 {}

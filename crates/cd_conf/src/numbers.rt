@@ -1,40 +1,14 @@
 //! Words that are numbers or flags.
 ghost use Rattle.cd_conf.specs.Digits.{digits_in};
 ghost use Rattle.cd_conf.specs.Faults.{conf_fault};
+ghost use Rattle.cd_conf.specs.Numbers.{all_digits, are_digits, at_most, decimal_digits, digits_of, fraction, is_decimal, is_false_word, is_fraction, is_hexadecimal, is_octal, is_true_word, is_whole, is_word, magnitude, millionths, millionths_limit, number_arg, plain_arg, with_sign, word_arg};
 ghost use Rattle.cd_reading.specs.Gives.{Gives};
-ghost use Rattle.cd_conf.specs.Numbers.{
-  all_digits,
-  are_digits,
-  at_most,
-  decimal_digits,
-  digits_of,
-  fraction,
-  is_decimal,
-  is_false_word,
-  is_fraction,
-  is_hexadecimal,
-  is_octal,
-  is_true_word,
-  is_whole,
-  is_word,
-  magnitude,
-  millionths,
-  millionths_limit,
-  number_arg,
-  plain_arg,
-  with_sign,
-  word_arg,
-};
 ghost use Rattle.cd_text.specs.Digits.{after_place, is_dot};
 ghost use Rattle.std.specs.Char.{digit_value};
 ghost use Rattle.std.specs.List.{before_first, position};
 ghost use Rattle.std.specs.Option.{ForSome, option_copied, option_map};
 ghost use Rattle.std.specs.Prelude.{IfSome, length, ◌*◌, ◌+◌, ◌^◌, ◌≡◌, ◌≤◌};
-ghost use Rattle.std.specs.Str.Parse.{
-  digits_value_after,
-  starts_with_minus,
-  without_leading_sign,
-};
+ghost use Rattle.std.specs.Str.Parse.{digits_value_after, starts_with_minus, without_leading_sign};
 
 use crate::fault::{ConfFault, ConfKind};
 use crate::form::Form;

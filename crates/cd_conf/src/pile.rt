@@ -1,29 +1,11 @@
 //! The items that have been read, with the sections that are still open.
-ghost use Rattle.cd_conf.specs.Pile.{Reads, open_section, opens_in, statements_in};
-ghost use Rattle.cd_conf.specs.Statements.{
-  End,
-  Open,
-  OptionOf,
-  StartOf,
-  closed,
-  open_behind,
-  statement_of,
-};
 ghost use Rattle.cd_conf.specs.Faults.{conf_fault};
+ghost use Rattle.cd_conf.specs.Pile.{Reads, open_section, opens_in, statements_in};
+ghost use Rattle.cd_conf.specs.Statements.{End, Open, OptionOf, StartOf, closed, open_behind, statement_of};
 ghost use Rattle.cd_conf.specs.Tree.{statements_of_items};
-ghost use Rattle.cd_reading.specs.Gives.{Gives};
 ghost use Rattle.cd_conf.specs.declared.head.LineKind.TheVariants.{SectionEnd};
-ghost use Rattle.std.specs.Prelude.{
-  IsOk,
-  List,
-  MatchResult,
-  Err,
-  OnOk,
-  [],
-  ◌++◌,
-  ◌∷◌,
-  ◌≡◌,
-};
+ghost use Rattle.cd_reading.specs.Gives.{Gives};
+ghost use Rattle.std.specs.Prelude.{Err, IsOk, List, MatchResult, OnOk, [], ◌++◌, ◌∷◌, ◌≡◌};
 
 use crate::fault::{ConfFault, ConfKind};
 use crate::head::{Head, LineKind};
@@ -100,7 +82,8 @@ impl Pile {
 
     /// Adds an option.
     fn put_option(&mut self, alloc: Global, key: Text, args: Args, line: u32) -> Result<(), Memory>
-        ensures { OnOk result (Reads self.old self.new (OptionOf key args line) (opens_in self.old)) }
+        ensures { OnOk result
+            (Reads self.old self.new (OptionOf key args line) (opens_in self.old)) }
     {
         let children = Items::new(alloc);
         self.here.push(Item {

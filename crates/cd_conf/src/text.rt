@@ -3,30 +3,10 @@ ghost use Rattle.cd_conf.specs.Blanks.{is_newline};
 ghost use Rattle.cd_conf.specs.Faults.{conf_fault};
 ghost use Rattle.cd_conf.specs.Pile.{Took, opens_in};
 ghost use Rattle.cd_conf.specs.Place.{characters_left, position};
-ghost use Rattle.cd_conf.specs.Statements.{
-  bad_line,
-  line_at,
-  stand,
-  statement_at,
-  statement_behind,
-  statements_at,
-  statements_of_text,
-};
+ghost use Rattle.cd_conf.specs.Statements.{bad_line, line_at, stand, statement_at, statement_behind, statements_at, statements_of_text};
 ghost use Rattle.cd_conf.specs.Tree.{statements_of_items};
 ghost use Rattle.cd_reading.specs.Gives.{Gives, Refuses};
-ghost use Rattle.std.specs.Prelude.{
-  IfErr,
-  IfNone,
-  IfOk,
-  IfSome,
-  count_by,
-  length,
-  take,
-  ◌+◌,
-  ◌<◌,
-  ◌≡◌,
-  ◌≤◌,
-};
+ghost use Rattle.std.specs.Prelude.{IfErr, IfNone, IfOk, IfSome, count_by, length, take, ◌+◌, ◌<◌, ◌≡◌, ◌≤◌};
 
 use crate::blanks::{is_line_end, next_line, skip_blanks};
 use crate::chars::split_first;

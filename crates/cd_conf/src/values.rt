@@ -1,10 +1,10 @@
 //! The values of a line.
+ghost use Rattle.cd_conf.specs.Characters.{after_run};
 ghost use Rattle.cd_conf.specs.Faults.{conf_fault};
 ghost use Rattle.cd_conf.specs.Place.{characters_left, position};
-ghost use Rattle.cd_conf.specs.Values.{quoted_arg, value_at, values_at, word_at};
-ghost use Rattle.cd_conf.specs.Seen.{seen_one, seen_value, seen_values};
 ghost use Rattle.cd_conf.specs.Quotes.{quoted_at};
-ghost use Rattle.cd_conf.specs.Characters.{after_run};
+ghost use Rattle.cd_conf.specs.Seen.{seen_one, seen_value, seen_values};
+ghost use Rattle.cd_conf.specs.Values.{quoted_arg, value_at, values_at, word_at};
 ghost use Rattle.cd_conf.specs.declared.runs.Kind.TheVariants.{Word};
 ghost use Rattle.cd_reading.specs.Gives.{Gives};
 ghost use Rattle.std.specs.Option.{option_map};
@@ -56,7 +56,8 @@ fn plain_word<'a>(alloc: Global, place: Place<'a>) -> Result<(Arg, Place<'a>), C
 /// where none begins.
 #[tactic(auto, unfolding(crate::specs::Values::value_at))]
 fn value<'a>(alloc: Global, place: Place<'a>) -> Result<Option<(Arg, Place<'a>)>, ConfFault>
-    ensures value { Gives (option_map seen_one) conf_fault result (value_at (position place.entry)) }
+    ensures value { Gives (option_map seen_one) conf_fault result
+        (value_at (position place.entry)) }
     ensures later { IfOk result (λ found.
         IfSome found (λ v. characters_left v.1 < characters_left place.entry)) }
 {

@@ -5,7 +5,7 @@ use Rattle.cd_daemon.specs.Legal.{Allowed, IsLegal}
 use Rattle.cd_daemon.specs.Settled.{IsSettled}
 use Rattle.cd_daemon.specs.declared.Opening.{Opening}
 use Rattle.cd_history.specs.History.{Event, History, handles, is_stopped, kept, ◌▸◌}
-use Rattle.cd_history.specs.Order.{Continues}
+use Rattle.cd_history.specs.Order.{IsFrontOf}
 use Rattle.cd_history.specs.declared.entry.Entry.TheVariants as entry
 use Rattle.cd_history.specs.declared.entry.Stopping.{Stopping}
 use Rattle.cd_value.specs.declared.data.Offered.{Offered}
@@ -46,7 +46,7 @@ more : (K : Opening) (P later : History) → IsLegal K (later ++ P) → IsSettle
 more K P [] legal s = s
 more K P (e ∷ later) legal s = one_more K (later ++ P) e legal.1 (more K P later legal.0 s)
 
-pub stays_settled : (K : Opening) (P H : History) → IsLegal K H → Continues P H → IsSettled P → IsSettled H
+pub stays_settled : (K : Opening) (P H : History) → IsLegal K H → IsFrontOf P H → IsSettled P → IsSettled H
 stays_settled K P H legal c s =
     subst IsSettled (sym c.is) (more K P c.later (subst (IsLegal K) c.is legal) s)
 
@@ -62,5 +62,5 @@ no_calls : (K : Opening) (P later : History) (r : ℕ) → IsLegal K (later ++ P
 no_calls K P [] r legal s = refl
 no_calls K P (e ∷ later) r legal s = no_call K (later ++ P) e r legal.1 (more K P later legal.0 s) ∙ no_calls K P later r legal.0 s
 
-pub makes_no_call : (K : Opening) (P H : History) (r : ℕ) → IsLegal K H → Continues P H → IsSettled P → calls_to K r H ≡ calls_to K r P
+pub makes_no_call : (K : Opening) (P H : History) (r : ℕ) → IsLegal K H → IsFrontOf P H → IsSettled P → calls_to K r H ≡ calls_to K r P
 makes_no_call K P H r legal c s = ap (calls_to K r) c.is ∙ no_calls K P c.later r (subst (IsLegal K) c.is legal) s

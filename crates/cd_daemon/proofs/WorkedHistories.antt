@@ -1,10 +1,12 @@
 -- Histories worked by hand: what a one-thread daemon answers in them.
 use Rattle.cd_daemon.specs.Answers.{close_answer, handle_answer, is_idle, next_call, query_answer, ready, register_answer, retire_answer}
-use Rattle.cd_daemon.specs.Calls.{answered_as, calls_to}
+use Rattle.cd_daemon.specs.Calls.{calls_to}
 use Rattle.cd_daemon.specs.Legal.{Allowed, IsLegal}
 use Rattle.cd_daemon.specs.declared.Opening.{Opening}
+use Rattle.cd_globals.specs.Globals.{default_globals}
 use Rattle.cd_history.specs.History.{History, is_stopped, ◌▸◌}
-use Rattle.cd_history.specs.Registrations.{live, live_number, registrations}
+use Rattle.cd_history.specs.Leases.{answered_as}
+use Rattle.cd_history.specs.Registrations.{live, number_of_live, registrations}
 use Rattle.cd_history.specs.declared.entry.Entry.TheVariants as entry
 use Rattle.cd_history.specs.declared.entry.Found.TheVariants as found
 use Rattle.cd_history.specs.declared.entry.How.TheVariants as how
@@ -14,7 +16,6 @@ use Rattle.cd_history.specs.declared.entry.RegisterFault.TheVariants as refused
 use Rattle.cd_history.specs.declared.entry.Why.TheVariants as why
 use Rattle.cd_registry.specs.Faults.{is_reserved}
 use Rattle.cd_registry.specs.declared.calls.Answer.TheVariants as answers
-use Rattle.cd_registry.specs.declared.calls.AnsweredCall.{AnsweredCall}
 use Rattle.cd_registry.specs.declared.calls.Call.TheVariants as calls
 use Rattle.cd_registry.specs.declared.faults.RetireFault.TheVariants as held_back
 use Rattle.cd_types.specs.Types.{fits_set, single}
@@ -27,7 +28,7 @@ use Rattle.std.proofs.Common.{Err, List, None, Ok, Some, [], arith, codes, false
 
 -- a daemon that knows gauges alone
 abbrev K : Opening
-K = record { types = single (codes "gauge") kinds.Gauge None ∷ []; interval = 10; timeout = 2 }
+K = record { types = single (codes "gauge") kinds.Gauge None ∷ []; globals = default_globals }
 
 -- a gauge of some millionths at a time
 abbrev gauge : ℕ → ℕ → ValueList
@@ -82,7 +83,7 @@ name_reserved = refl
 none_after_a_stop : register_answer retired (codes "c") ≡ Err refused.Stopping
 none_after_a_stop = refl
 
-module _ (P : History) (name : List ℕ) (goes_on : is_stopped P ≡ false) (is_free : is_reserved name ≡ false) (is_new : live_number name P ≡ None) where
+module _ (P : History) (name : List ℕ) (goes_on : is_stopped P ≡ false) (is_free : is_reserved name ≡ false) (is_new : number_of_live name P ≡ None) where
   last_of_the_table : length (live P) ≡ 255 → length (registrations P) ≡ 300 → register_answer P name ≡ Ok 300
   last_of_the_table many all = rw (goes_on, is_free, is_new, many, all) refl
 
@@ -130,7 +131,7 @@ its_call = refl
 none_left : next_call K done 1 ≡ None
 none_left = refl
 
-what_it_got : answered_as K (codes "b") done ≡ record { call = calls.Write (gauge 5 250000); answer = answers.Done } ∷ []
+what_it_got : answered_as (codes "b") done ≡ record { call = calls.Write (gauge 5 250000); answer = answers.Done } ∷ []
 what_it_got = refl
 
 nobody_else : calls_to K 2 done ≡ []

@@ -7,7 +7,7 @@ use Rattle.cd_daemon.specs.Handling.{next_handling}
 use Rattle.cd_daemon.specs.declared.Opening.{Opening}
 use Rattle.cd_history.specs.History.{History, handles, is_stopped, kept}
 use Rattle.cd_history.specs.Leases.{taken_by, takes}
-use Rattle.cd_history.specs.Registrations.{Registration, is_closed, is_plug, is_retired, live, live_number, registrations}
+use Rattle.cd_history.specs.Registrations.{Registration, is_closed, is_plug, is_retired, live, number_of_live, registrations}
 use Rattle.cd_history.specs.declared.entry.Found.TheVariants as found
 use Rattle.cd_history.specs.declared.entry.Found.{Found}
 use Rattle.cd_history.specs.declared.entry.Handled.{Handled}
@@ -37,14 +37,14 @@ abbrev pub register_answer : History → List ℕ → Result ℕ RegisterFault
 register_answer P name =
     if is_stopped P then Err refused.Stopping
     else if is_reserved name then Err refused.Reserved
-    else elim (live_number name P) [
+    else elim (number_of_live name P) [
       | Some r ↦ Err (refused.NameTaken r)
       | None ↦ if nat_le LIVE_LIMIT (length (live P)) then Err refused.TableFull else Ok (length (registrations P))
     ]
 
 -- the number of the live registration of the name, or none
 abbrev pub close_answer : History → List ℕ → Option ℕ
-close_answer P name = live_number name P
+close_answer P name = number_of_live name P
 
 abbrev pub home_or_pending : ℕ → Result (Unit {0}) RetireFault
 home_or_pending n = if nat_eq n 0 then Ok tt else Err (held_back.Pending n)
@@ -67,7 +67,8 @@ handle_answer K P now =
 
 -- the names of the data sources of a cached list, by the types that are known
 abbrev pub source_names : List DataSet → CacheEntry → List (List ℕ)
-source_names types entry = elim (set_named entry.list.id.type_name types) [ None ↦ [] | Some set ↦ map (λ source. source.name) set.sources ]
+source_names types entry =
+    elim (set_named entry.list.id.type_name types) [ None ↦ [] | Some set ↦ map (λ source. source.name) set.sources ]
 
 abbrev pub found_in : List DataSet → Option CacheEntry → Found
 found_in types None = found.NoSuchValue
@@ -78,13 +79,15 @@ abbrev pub query_answer : Opening → History → Option (List ℕ) → Found
 query_answer K P None = found.Listed (rows_of (cache_after K P))
 query_answer K P (Some name) = found_in K.types (cached name (cache_after K P))
 
--- a plug-in that is at home and for which a call waits
-abbrev pub is_ready : Opening → History → Registration → Bool
-is_ready K P g = is_plug g.joining && not (is_retired g.number P) && not (is_some (taken_by g.number P)) && not (nat_eq (pending K P g.number) 0)
+-- a call of it may be taken: it is a plug-in that is at home, and a call waits
+abbrev pub may_be_taken : Opening → History → Registration → Bool
+may_be_taken K P g =
+    is_plug g.joining && not (is_retired g.number P)
+    && not (is_some (taken_by g.number P)) && not (nat_eq (pending K P g.number) 0)
 
 -- the least of them
 abbrev pub ready : Opening → History → Option ℕ
-ready K P = elim (find (is_ready K P) (registrations P)) [ None ↦ None | Some g ↦ Some g.number ]
+ready K P = elim (find (may_be_taken K P) (registrations P)) [ None ↦ None | Some g ↦ Some g.number ]
 
 -- the call that the next Take of r gets
 abbrev pub next_call : Opening → History → ℕ → Option Call

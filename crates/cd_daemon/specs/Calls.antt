@@ -1,21 +1,21 @@
--- The cache after a history, the calls that the entries make, and what each plug-in got.
+-- The cache after a history, and the calls that the entries make.
 use Rattle.cd_cache.specs.Cache.{CacheMap, empty}
 use Rattle.cd_daemon.specs.Handling.{Post, next_handling}
 use Rattle.cd_daemon.specs.declared.Opening.{Opening}
 use Rattle.cd_history.specs.History.{Event, History, ◌▸◌}
-use Rattle.cd_history.specs.Leases.{answers_to, takes}
-use Rattle.cd_history.specs.Registrations.{is_text, registrations}
+use Rattle.cd_history.specs.Leases.{takes}
 use Rattle.cd_history.specs.declared.entry.Entry.TheVariants as entry
 use Rattle.cd_registry.specs.declared.calls.Answer.{Answer}
 use Rattle.cd_registry.specs.declared.calls.AnsweredCall.{AnsweredCall}
 use Rattle.cd_registry.specs.declared.calls.Call.{Call}
-use Rattle.std.specs.List.{filter, flat_map}
+use Rattle.std.specs.List.{filter}
 use Rattle.std.specs.Prelude.{List, [], length, map, nat_eq, ℕ, ◌++◌, ◌-◌, ◌∷◌}
 
 -- of some calls, those to r
 abbrev pub sent_to : ℕ → List Post → List Call
 sent_to r posts = map (λ p. p.call) (filter (λ p. nat_eq p.reg r) posts)
 
+-- of calls and answers in order, each call with its answer, as far as both go
 abbrev pub answered_calls : List Call → List Answer → List AnsweredCall
 answered_calls (call ∷ more) (answer ∷ answers) = record { call = call; answer = answer } ∷ answered_calls more answers
 answered_calls more answers = []
@@ -23,7 +23,7 @@ answered_calls more answers = []
 module _ (K : Opening) where
   -- the cache is empty at first, and each Handle leaves the one that its list leaves; no other entry changes it
   abbrev pub cache_after : History → CacheMap
-  cache_after [] = empty K.timeout
+  cache_after [] = empty K.globals.timeout
   cache_after (P ▸ entry.Handle a now reply) = (next_handling K (cache_after P) P now).cache
   cache_after (P ▸ e) = cache_after P
 
@@ -40,11 +40,3 @@ module _ (K : Opening) where
   -- how many calls of r wait
   abbrev pub pending : History → ℕ → ℕ
   pending P r = length (calls_to r P) - takes r P
-
-  -- the calls of r that were answered, each with its answer, in order
-  abbrev pub answered : ℕ → History → List AnsweredCall
-  answered r P = answered_calls (calls_to r P) (answers_to r P)
-
-  -- those of all registrations of a name, in order
-  abbrev pub answered_as : List ℕ → History → List AnsweredCall
-  answered_as name P = flat_map (λ g. answered g.number P) (filter (λ g. is_text g.name name) (registrations P))

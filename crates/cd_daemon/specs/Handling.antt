@@ -34,18 +34,22 @@ abbrev pub as_how : Updated → How
 as_how outcomes.Stored = how.Stored
 as_how outcomes.Old = how.Old
 
--- the cache of a daemon that knows these types, after a list that came at a moment; the list's type is known wherever one
--- is handled
-abbrev pub stored : List DataSet → ValueList → ℕ → CacheMap → CacheMap
-stored types list now cache = elim (set_named list.id.type_name types) [ None ↦ cache | Some set ↦ updated set list now cache ]
+-- the data set of a list, where its type is known: it is wherever one is handled
+abbrev pub set_of : List DataSet → ValueList → Option DataSet
+set_of types list = set_named list.id.type_name types
 
--- What handling a list does, with what is in force, the cache, the live registrations and the moment: it is stored unless
--- what is cached under its name is as new, no writer is skipped, and it is written to all live writers.
+-- the cache after a list of that data set, which came at a moment
+abbrev pub stored : Option DataSet → ValueList → ℕ → CacheMap → CacheMap
+stored None list now cache = cache
+stored (Some set) list now cache = updated set list now cache
+
+-- What handling a list does, with what is in force, the cache, the live registrations and the moment: it is stored
+-- unless what is cached under its name is as new, no writer is skipped, and it is written to all live writers.
 abbrev pub handling : Opening → CacheMap → List Registration → ValueList → ℕ → Handling
 handling K cache regs list now = record {
   how = as_how (outcome list cache);
   skipped = 0;
-  cache = stored K.types list now cache;
+  cache = stored (set_of K.types list) list now cache;
   posts = to_each (listeners WRITE regs) (calls.Write list);
 }
 

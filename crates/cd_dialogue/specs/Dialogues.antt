@@ -91,7 +91,8 @@ module _ {S : Type 0} (serves : Next → Cut → List ℕ → S → S → Type 0
     pub quiets : after.quiets ≡ before.quiets
 
   -- the earlier lines were served with these replies, and then the last one with this reply, whatever comes after it
-  pub record ServedLast (old new : S) (earlier : List Cut) (replies : List ℕ) (last : Cut) (reply : List ℕ) : Type 0 where
+  pub record ServedLast (old new : S)
+      (earlier : List Cut) (replies : List ℕ) (last : Cut) (reply : List ℕ) : Type 0 where
     pub between : S
     pub goes : Next
     pub served : Served (serves next.GoOn) earlier replies old between

@@ -1,7 +1,7 @@
 -- A history and its events in the order in which they came: what holds of the one holds of the other.
 use Rattle.cd_history.specs.History.{Event, History, actor_of, mine, ◌▸◌}
-use Rattle.cd_history.specs.Order.{Continues, history_of}
-use Rattle.std.proofs.Common.{Bool, List, [], ap, false, nat_eq, refl, sym, true, ℕ, ◌++◌, ◌∙◌, ◌∷◌, ◌≡◌}
+use Rattle.cd_history.specs.Order.{IsFrontOf, history_of}
+use Rattle.std.proofs.Common.{Bool, List, [], ap, append_assoc, false, nat_eq, refl, sym, true, ℕ, ◌++◌, ◌∙◌, ◌∷◌, ◌≡◌}
 use Rattle.std.proofs.lemmas.List.Elements.{filter-append}
 use Rattle.std.proofs.lemmas.List.{append-nil, reverse-append, reverse-reverse}
 
@@ -17,13 +17,27 @@ history_of-more events more = reverse-append events more
 pub history_of-twice : (H : History) → history_of (history_of H) ≡ H
 history_of-twice H = reverse-reverse H
 
--- what begins the events is an earlier history
-pub continues : (events more all : List Event) → events ++ more ≡ all → Continues (history_of events) (history_of all)
-continues events more all is = record { later = history_of more; is = ap history_of (sym is) ∙ history_of-more events more }
+-- the first events are the front of the history
+pub first_in_front : (events more all : List Event) → events ++ more ≡ all → IsFrontOf (history_of events) (history_of all)
+first_in_front events more all is = record { later = history_of more; is = ap history_of (sym is) ∙ history_of-more events more }
 
--- an earlier history begins the events
-pub begins : (P H : History) (c : Continues P H) → history_of P ++ history_of c.later ≡ history_of H
-begins P H c = sym (ap history_of c.is ∙ history_of-more c.later P)
+-- the front of a history has its first events
+pub front_is_first : (P H : History) (front : IsFrontOf P H) → history_of P ++ history_of front.later ≡ history_of H
+front_is_first P H front = sym (ap history_of front.is ∙ history_of-more front.later P)
+
+-- the front of a front
+pub front-trans : {P Q H : History} → IsFrontOf P Q → IsFrontOf Q H → IsFrontOf P H
+front-trans {P = P} first second = record {
+  later = second.later ++ first.later;
+  is = second.is ∙ ap (λ (Q : History). second.later ++ Q) first.is ∙ sym (append_assoc second.later first.later P);
+}
+
+pub front-refl : (P : History) → IsFrontOf P P
+front-refl P = record { later = []; is = refl }
+
+-- one event more
+pub front-more : {P Q : History} (e : Event) → IsFrontOf P Q → IsFrontOf P (Q ▸ e)
+front-more e front = record { later = e ∷ front.later; is = ap (λ (Q : History). e ∷ Q) front.is }
 
 -- an actor's own events
 pub mine-history_of : (a : ℕ) (events : List Event) → mine a (history_of events) ≡ history_of (mine a events)

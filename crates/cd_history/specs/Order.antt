@@ -6,7 +6,7 @@ use Rattle.std.specs.Prelude.{List, reverse, ◌++◌, ◌≡◌}
 abbrev pub history_of : List Event → History
 history_of events = reverse events
 
--- a history came out of an earlier one by more events
-pub record Continues (P H : History) : Type 0 where
+-- P is the front of H: H has further events behind those of P
+pub record IsFrontOf (P H : History) : Type 0 where
   pub later : History
   pub is : H ≡ later ++ P

@@ -41,13 +41,13 @@ abbrev pub live : History → List Registration
 live P = filter (λ g. not (is_closed g.number P)) (registrations P)
 
 -- one that is read has no kinds
-abbrev pub kinds_of : Joining → ℕ
-kinds_of (Plug kinds config told) = kinds.0
-kinds_of (Probe interval now told) = 0
+abbrev pub kinds_joined : Joining → ℕ
+kinds_joined (Plug kinds config told) = kinds.0
+kinds_joined (Probe interval now told) = 0
 
 -- it has all kinds of these
 abbrev pub has_kind : Kinds → Registration → Bool
-has_kind kind g = bit_and (kinds_of g.joining) kind.0 == kind.0
+has_kind kind g = bit_and (kinds_joined g.joining) kind.0 == kind.0
 
 abbrev pub is_plug : Joining → Bool
 is_plug (Plug kinds config told) = true
@@ -57,13 +57,9 @@ is_plug (Probe interval now told) = false
 abbrev pub listeners : Kinds → List Registration → List ℕ
 listeners kind regs = map (λ g. g.number) (filter (has_kind kind) regs)
 
--- the numbers of the live registrations of a kind, in order
-abbrev pub listening : Kinds → History → List ℕ
-listening kind P = listeners kind (live P)
-
 -- the number of the live registration of that name
-abbrev pub live_number : List ℕ → History → Option ℕ
-live_number name P = option_map (λ g. g.number) (find (λ g. is_text g.name name) (live P))
+abbrev pub number_of_live : List ℕ → History → Option ℕ
+number_of_live name P = option_map (λ g. g.number) (find (λ g. is_text g.name name) (live P))
 
 -- who closed r
 abbrev pub closed_by : ℕ → History → Option ℕ

@@ -1,6 +1,6 @@
 //! What a run took from the outside.
-use cd_registry::Answer;
-use cd_value::{Lists, Sequence};
+use cd_registry::{Answer, Reading};
+use cd_value::Sequence;
 
 /// What the clock, the dice, a plug-in or a reader gave to a run.
 #[derive(Drop)]
@@ -11,8 +11,8 @@ pub enum Given {
     Word(u64),
     /// What a plug-in answered to a call.
     Answered(Answer),
-    /// What a reader gave: its lists, or none where the reading failed.
-    Read(Option<Lists>),
+    /// What a reader gave.
+    Read(Reading),
 }
 
 /// What was given, in order.

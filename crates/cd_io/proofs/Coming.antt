@@ -1,9 +1,9 @@
 -- What came over calls on a source of datagrams, one after another.
-use Rattle.std.proofs.Common.{◌≡◌, ◌<◌, ◌+◌, ℕ, List, [], ◌∷◌, ◌++◌, length, take, drop, map, get_or, refl, sym, ap, ◌∙◌, arith}
-use Rattle.std.proofs.lemmas.List.{drop_more, map_more}
+use Rattle.cd_io.proofs.Moves.{adds_more, adds_none, loses_more, loses_none}
 use Rattle.cd_io.specs.Datagrams.{as_datagram}
 use Rattle.cd_io.specs.Packets.{Came, PacketsTell}
-use Rattle.cd_io.proofs.Moves.{adds_more, adds_none, loses_more, loses_none}
+use Rattle.std.proofs.Common.{List, [], ap, arith, drop, get_or, length, map, refl, sym, take, ℕ, ◌++◌, ◌+◌, ◌<◌, ◌∙◌, ◌∷◌, ◌≡◌}
+use Rattle.std.proofs.lemmas.List.{drop_more, map_more}
 
 -- no call
 pub came_nothing : (source : PacketsTell) → Came [] source source

@@ -1,13 +1,13 @@
 -- The files of a world, searched by their paths.
-use Rattle.std.proofs.Common.{◌≡◌, ◌<◌, ◌≤◌, ◌+◌, ◌-◌, ℕ, List, [], ◌∷◌, Bool, true, false, cond, not, nat_lt, map, drop, get_or, set, length, Option, Some, None, refl, ap, sym, ◌∙◌, arith, one-add, length-drop}
-use Rattle.std.specs.List.{find, position, position_or_len, slice_get}
-use Rattle.std.specs.Option.{option_map, option_and_then}
-use Rattle.std.specs.Str.{bytes_eq}
-use Rattle.std.proofs.lemmas.Bool.{cond-true, ltb-true}
+use Rattle.cd_io.specs.World.{FileTells, after_opening, later, later_texts, opening}
+use Rattle.std.proofs.Common.{Bool, List, None, Option, Some, [], ap, arith, cond, drop, false, get_or, length, length-drop, map, nat_lt, not, one-add, refl, set, sym, true, ℕ, ◌+◌, ◌-◌, ◌<◌, ◌∙◌, ◌∷◌, ◌≡◌, ◌≤◌}
 use Rattle.std.proofs.lemmas.Bool.Decides.{nat_tests}
-use Rattle.std.proofs.lemmas.List.{drop-map, drop-drop, length-map}
+use Rattle.std.proofs.lemmas.Bool.{cond-true, ltb-true}
+use Rattle.std.proofs.lemmas.List.{drop-drop, drop-map, length-map}
 use Rattle.std.proofs.lemmas.Option.{cond_some}
-use Rattle.cd_io.specs.World.{after_opening, FileTells, later, later_texts, opening}
+use Rattle.std.specs.List.{find, position, position_or_len, slice_get}
+use Rattle.std.specs.Option.{option_and_then, option_map}
+use Rattle.std.specs.Str.{bytes_eq}
 
 -- the place that was found is the first that passes, and is within the list
 pub place_found : {A : Type 0} (p : A → Bool) (xs : List A) (i : ℕ) → position p xs ≡ Some i

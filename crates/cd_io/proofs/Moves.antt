@@ -1,6 +1,6 @@
 -- What is told over two calls, one after another.
-use Rattle.std.proofs.Common.{ℕ, List, [], ◌++◌, Option, None, Some, refl, sym, ◌∙◌, ap, append_assoc, append-nil}
 use Rattle.cd_io.specs.Told.{Adds, Grows, Loses, Moves}
+use Rattle.std.proofs.Common.{List, None, Option, Some, [], ap, append-nil, append_assoc, refl, sym, ℕ, ◌++◌, ◌∙◌}
 
 -- two moves, one after the other, are a move by any step that they make together
 pub moves_then : {A : Type 0} (first second both : A → A → Type 0) (old mid new : Option A)

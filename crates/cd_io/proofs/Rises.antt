@@ -1,6 +1,6 @@
 -- A count of faults or of quiets over two calls, one after another.
-use Rattle.std.proofs.Common.{◌≤◌, ℕ, arith}
 use Rattle.cd_io.specs.Causes.{Rose}
+use Rattle.std.proofs.Common.{arith, ℕ, ◌≤◌}
 
 -- a count that rose in the first call, and didn't fall in the second, rose over both
 pub rose_later : (before mid now : ℕ) → Rose before mid → mid ≤ now → Rose before now

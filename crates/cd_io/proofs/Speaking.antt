@@ -1,12 +1,12 @@
 -- What was heard and said over calls on a link, one after another.
-use Rattle.std.proofs.Common.{◌≡◌, ℕ, ◌+◌, ◌<◌, true, false, List, [], ◌++◌, take, drop, Option, None, Some, IfSome, Result, Ok, Err, is_err, OnErr, refl, sym, ap, ◌∙◌, subst, append-nil, arith, length, length-drop}
-use Rattle.std.proofs.Math.Seq.{take-add}
-use Rattle.std.proofs.lemmas.List.{take-append-drop}
-use Rattle.cd_io.specs.declared.traits.Failed.{Failed}
-use Rattle.cd_io.specs.Told.{Loses}
-use Rattle.cd_io.specs.Link.{HasEnded, LinkTells, SaidInPart, Says, SaysWhole, Spoke}
 use Rattle.cd_io.proofs.Moves.{grows_more, grows_none, loses_more, loses_none}
 use Rattle.cd_io.proofs.Rises.{later_rose}
+use Rattle.cd_io.specs.Link.{HasEnded, LinkTells, SaidInPart, Says, SaysWhole, Spoke}
+use Rattle.cd_io.specs.Told.{Loses}
+use Rattle.cd_io.specs.declared.traits.Failed.{Failed}
+use Rattle.std.proofs.Common.{Err, IfSome, List, None, Ok, OnErr, Option, Result, Some, [], ap, append-nil, arith, drop, false, is_err, length, length-drop, refl, subst, sym, take, true, ℕ, ◌++◌, ◌+◌, ◌<◌, ◌∙◌, ◌≡◌}
+use Rattle.std.proofs.Math.Seq.{take-add}
+use Rattle.std.proofs.lemmas.List.{take-append-drop}
 
 -- no call
 pub spoke_nothing : (link : LinkTells) → Spoke [] [] link link

@@ -1,8 +1,8 @@
 -- What is left of a source over calls, one after another.
-use Rattle.std.proofs.Common.{◌≡◌, ◌<◌, ℕ, List, [], ◌∷◌, ◌++◌, length, Option, None, Some, IfSome, refl, sym, ap, ◌∙◌, append_assoc, append-nil, length-append, arith}
+use Rattle.cd_io.specs.Told.{Takes}
+use Rattle.std.proofs.Common.{IfSome, List, None, Option, Some, [], ap, append-nil, append_assoc, arith, length, length-append, refl, sym, ℕ, ◌++◌, ◌<◌, ◌∙◌, ◌∷◌, ◌≡◌}
 use Rattle.std.proofs.lemmas.Option.{same_Some}
 use Rattle.std.specs.Option.{option_map}
-use Rattle.cd_io.specs.Told.{Takes}
 
 -- no call
 pub takes_none : (told : Option (List ℕ)) → Takes [] told told

@@ -1,5 +1,5 @@
 -- What a writer holds over calls of `write` that fail.
-use Rattle.std.proofs.Common.{ℕ, List, Option, None, Some, refl}
+use Rattle.std.proofs.Common.{List, None, Option, Some, refl, ℕ}
 use Rattle.std.specs.Io.KnownBytes.{Keeps}
 
 -- no call

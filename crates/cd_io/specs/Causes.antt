@@ -1,5 +1,5 @@
 -- When a call on an object of the outside may fail.
-use Rattle.std.specs.Prelude.{◌≡◌, ℕ, ◌+◌, ◌-◌, ◌^◌, ◌≤◌, min, Bool, true, false}
+use Rattle.std.specs.Prelude.{Bool, false, min, true, ℕ, ◌+◌, ◌-◌, ◌^◌, ◌≡◌, ◌≤◌}
 
 -- a count went up, or stands at the last number that 64 bits hold
 abbrev pub Rose : ℕ → ℕ → Type 0

@@ -1,6 +1,6 @@
 -- What a datagram has.
-use Rattle.std.specs.Prelude.{ℕ, List, take}
 use Rattle.cd_io.specs.declared.packets.TheConstants.{DATAGRAM_LIMIT}
+use Rattle.std.specs.Prelude.{List, take, ℕ}
 
 -- as many of some bytes as a datagram may have
 abbrev pub as_datagram : List ℕ → List ℕ

@@ -1,9 +1,9 @@
 -- What a link tells that keeps what is said, and what saying all of that does.
-use Rattle.std.specs.Prelude.{◌≡◌, ℕ, Bool, false, List, [], ◌++◌}
-use Rattle.std.specs.Option.{option_map}
 use Rattle.cd_io.specs.Causes.{Counts}
 use Rattle.cd_io.specs.Link.{LinkTells}
 use Rattle.cd_io.specs.Told.{Grows}
+use Rattle.std.specs.Option.{option_map}
+use Rattle.std.specs.Prelude.{Bool, List, [], false, ℕ, ◌++◌, ◌≡◌}
 
 -- what the inner link tells, with what is kept behind what was said
 abbrev pub gathered : List ℕ → LinkTells → LinkTells

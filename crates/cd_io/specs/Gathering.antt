@@ -1,9 +1,9 @@
 -- What a gathering link keeps.
-use Rattle.std.specs.Prelude.{ℕ, ◌-◌, Bool, true, false, not, ◌&&◌, nat_le, List, length, Result, Ok, Err}
 use Rattle.cd_io.specs.declared.gathering.Gathering.{Gathering}
 use Rattle.cd_io.specs.declared.traits.Failed.{Failed}
-use Rattle.cd_io.specs.declared.traits.Heard.{Heard}
 use Rattle.cd_io.specs.declared.traits.Heard.TheVariants.{End, Got, Quiet}
+use Rattle.cd_io.specs.declared.traits.Heard.{Heard}
+use Rattle.std.specs.Prelude.{Bool, Err, List, Ok, Result, false, length, nat_le, not, true, ℕ, ◌&&◌, ◌-◌}
 
 -- what was said to it and not yet to the inner link
 abbrev pub kept_of : {L : Type 0} → Gathering L → List ℕ

@@ -1,10 +1,10 @@
 -- What a link tells, and what calls on it do to that.
-use Rattle.std.specs.Prelude.{◌≡◌, ◌<◌, ◌≤◌, ℕ, Bool, true, false, List, [], ◌++◌, take, length, Option, None, IfSome, Result, Ok, Err, is_err}
-use Rattle.cd_io.specs.declared.traits.Heard.{Heard}
-use Rattle.cd_io.specs.declared.traits.Heard.TheVariants.{End, Got, Quiet}
-use Rattle.cd_io.specs.declared.traits.Failed.{Failed}
 use Rattle.cd_io.specs.Causes.{Counts, Rose}
 use Rattle.cd_io.specs.Told.{Grows, Loses}
+use Rattle.cd_io.specs.declared.traits.Failed.{Failed}
+use Rattle.cd_io.specs.declared.traits.Heard.TheVariants.{End, Got, Quiet}
+use Rattle.cd_io.specs.declared.traits.Heard.{Heard}
+use Rattle.std.specs.Prelude.{Bool, Err, IfSome, List, None, Ok, Option, Result, [], false, is_err, length, take, true, ℕ, ◌++◌, ◌<◌, ◌≡◌, ◌≤◌}
 
 -- What a link tells: the bytes that it gave, those that it has left and those that were said, where it tells them; how
 -- many calls failed, and how many times nothing came within its limit of waiting.

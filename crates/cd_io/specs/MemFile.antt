@@ -1,11 +1,11 @@
 -- What a file in memory shows.
-use Rattle.std.specs.Prelude.{List, map, drop, string_bytes, Option, Some, None, Result, Ok, Err, ℕ}
+use Rattle.cd_io.specs.MemSource.{PlanTells, plan_tells}
+use Rattle.cd_io.specs.World.{FileTells, after_opening}
+use Rattle.cd_io.specs.declared.memory.file.MemFile.{MemFile}
 use Rattle.std.specs.List.{find}
 use Rattle.std.specs.Option.{option_map}
+use Rattle.std.specs.Prelude.{Err, List, None, Ok, Option, Result, Some, drop, map, string_bytes, ℕ}
 use Rattle.std.specs.Str.{bytes_eq}
-use Rattle.cd_io.specs.declared.memory.file.MemFile.{MemFile}
-use Rattle.cd_io.specs.MemSource.{plan_tells, PlanTells}
-use Rattle.cd_io.specs.World.{after_opening, FileTells}
 
 -- its path, and the texts of its next openings
 abbrev pub shown : MemFile → FileTells

@@ -1,10 +1,10 @@
 -- What a link in memory tells, and which calls on it go through.
-use Rattle.std.specs.Prelude.{ℕ, ◌+◌, ◌-◌, ◌^◌, min, max, Bool, ◌==◌, ◌&&◌, ◌||◌, not, if◌then◌else◌, List, [], take, drop, length, Some}
+use Rattle.cd_io.specs.Link.{LinkTells}
+use Rattle.cd_io.specs.declared.memory.link.LinkPlan.{LinkPlan}
+use Rattle.cd_io.specs.declared.memory.link.MemLink.{MemLink}
 use Rattle.std.specs.List.{list_any}
 use Rattle.std.specs.Option.{option_map}
-use Rattle.cd_io.specs.declared.memory.link.MemLink.{MemLink}
-use Rattle.cd_io.specs.declared.memory.link.LinkPlan.{LinkPlan}
-use Rattle.cd_io.specs.Link.{LinkTells}
+use Rattle.std.specs.Prelude.{Bool, List, Some, [], drop, if◌then◌else◌, length, max, min, not, take, ℕ, ◌&&◌, ◌+◌, ◌-◌, ◌==◌, ◌^◌, ◌||◌}
 
 -- what a link in memory tells; what was said is told as long as there was memory to keep it
 abbrev pub tells_of : MemLink → LinkTells

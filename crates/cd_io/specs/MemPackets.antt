@@ -1,10 +1,10 @@
 -- What a source of datagrams in memory tells, and which calls on it go through.
-use Rattle.std.specs.Prelude.{ℕ, Bool, not, ◌&&◌, List, [], map, take, drop, Some}
-use Rattle.cd_io.specs.declared.memory.packets.MemPackets.{MemPackets}
-use Rattle.cd_io.specs.declared.memory.packets.PacketsPlan.{PacketsPlan}
 use Rattle.cd_io.specs.Datagrams.{as_datagram}
 use Rattle.cd_io.specs.MemLink.{is_among}
 use Rattle.cd_io.specs.Packets.{PacketsTell}
+use Rattle.cd_io.specs.declared.memory.packets.MemPackets.{MemPackets}
+use Rattle.cd_io.specs.declared.memory.packets.PacketsPlan.{PacketsPlan}
+use Rattle.std.specs.Prelude.{Bool, List, Some, [], drop, map, not, take, ℕ, ◌&&◌}
 
 -- what a source in memory tells
 abbrev pub tells_of : MemPackets → PacketsTell

@@ -1,9 +1,9 @@
 -- What a source in memory tells, and which calls on it fail.
-use Rattle.std.specs.Prelude.{◌≡◌, ℕ, ◌-◌, ◌^◌, min, max, Bool, if◌then◌else◌, List, [], drop, length, Some}
-use Rattle.cd_io.specs.declared.memory.source.MemSource.{MemSource}
-use Rattle.cd_io.specs.declared.memory.source.SourcePlan.{SourcePlan}
 use Rattle.cd_io.specs.MemLink.{is_among}
 use Rattle.cd_io.specs.Source.{SourceTells}
+use Rattle.cd_io.specs.declared.memory.source.MemSource.{MemSource}
+use Rattle.cd_io.specs.declared.memory.source.SourcePlan.{SourcePlan}
+use Rattle.std.specs.Prelude.{Bool, List, Some, [], drop, if◌then◌else◌, length, max, min, ℕ, ◌-◌, ◌^◌, ◌≡◌}
 
 -- what a source in memory tells
 abbrev pub tells_of : MemSource → SourceTells

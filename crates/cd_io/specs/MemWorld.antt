@@ -1,10 +1,10 @@
 -- What a world in memory tells, and which calls of `file` on it fail.
-use Rattle.std.specs.Prelude.{ℕ, Bool, ◌||◌, List, map, Option, Some, is_none}
-use Rattle.cd_io.specs.declared.memory.world.MemWorld.{MemWorld}
 use Rattle.cd_io.specs.MemFile.{plan_at, plan_of, shown}
 use Rattle.cd_io.specs.MemLink.{is_among}
 use Rattle.cd_io.specs.MemSource.{PlanTells}
-use Rattle.cd_io.specs.World.{FileTells, opening, WorldTells}
+use Rattle.cd_io.specs.World.{FileTells, WorldTells, opening}
+use Rattle.cd_io.specs.declared.memory.world.MemWorld.{MemWorld}
+use Rattle.std.specs.Prelude.{Bool, List, Option, Some, is_none, map, ℕ, ◌||◌}
 
 -- what a world in memory tells of its files
 abbrev pub files_of : MemWorld → List FileTells

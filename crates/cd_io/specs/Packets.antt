@@ -1,11 +1,11 @@
 -- What a source of datagrams tells, and what a call on it does to that.
-use Rattle.std.specs.Prelude.{◌≡◌, ◌≤◌, ℕ, List, [], ◌∷◌, take, Option, IfSome, Result, Ok, Err, is_err}
-use Rattle.cd_io.specs.declared.traits.Heard.{Heard}
-use Rattle.cd_io.specs.declared.traits.Heard.TheVariants.{End, Got, Quiet}
-use Rattle.cd_io.specs.declared.traits.Failed.{Failed}
 use Rattle.cd_io.specs.Causes.{Counts}
 use Rattle.cd_io.specs.Link.{is_quiet}
 use Rattle.cd_io.specs.Told.{Adds, Loses}
+use Rattle.cd_io.specs.declared.traits.Failed.{Failed}
+use Rattle.cd_io.specs.declared.traits.Heard.TheVariants.{End, Got, Quiet}
+use Rattle.cd_io.specs.declared.traits.Heard.{Heard}
+use Rattle.std.specs.Prelude.{Err, IfSome, List, Ok, Option, Result, [], is_err, take, ℕ, ◌∷◌, ◌≡◌, ◌≤◌}
 
 -- What a source of datagrams tells: the datagrams that it gave and those that it has left, where it tells them; how
 -- many calls failed, and how many times none came within its limit of waiting.

@@ -1,10 +1,10 @@
 -- What a source of bytes tells, and what a call on it does to that.
-use Rattle.std.specs.Prelude.{◌≡◌, ◌≤◌, ◌<◌, ℕ, Bool, true, false, List, [], take, length, Option, IfSome, Result, Ok, Err, is_err}
-use Rattle.cd_io.specs.declared.source.ReadAllFault.{ReadAllFault}
-use Rattle.cd_io.specs.declared.source.ReadAllFault.TheVariants as fault
-use Rattle.cd_io.specs.declared.traits.Failed.{Failed}
 use Rattle.cd_io.specs.Causes.{Counts}
 use Rattle.cd_io.specs.Told.{Takes}
+use Rattle.cd_io.specs.declared.source.ReadAllFault.TheVariants as fault
+use Rattle.cd_io.specs.declared.source.ReadAllFault.{ReadAllFault}
+use Rattle.cd_io.specs.declared.traits.Failed.{Failed}
+use Rattle.std.specs.Prelude.{Bool, Err, IfSome, List, Ok, Option, Result, [], false, is_err, length, take, true, ℕ, ◌<◌, ◌≡◌, ◌≤◌}
 
 -- What a source tells: the bytes that it has left, where it tells them, and how many calls failed.
 pub record SourceTells : Type 0 where

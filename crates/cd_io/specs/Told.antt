@@ -1,6 +1,6 @@
 -- What an object of the outside tells, before and after a call.
-use Rattle.std.specs.Prelude.{◌≡◌, ℕ, ◌+◌, ◌-◌, ◌^◌, ◌%◌, min, List, ◌++◌, Option, None, Some}
 use Rattle.std.specs.Option.{option_map}
+use Rattle.std.specs.Prelude.{List, None, Option, Some, min, ℕ, ◌%◌, ◌++◌, ◌+◌, ◌-◌, ◌^◌, ◌≡◌}
 
 -- what is told moves by a step, or isn't told from then on; what wasn't told is never told
 abbrev pub Moves : {A : Type 0} → (A → A → Type 0) → Option A → Option A → Type 0

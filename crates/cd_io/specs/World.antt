@@ -1,12 +1,12 @@
 -- What a world tells of its files, and what calls on it do to that.
-use Rattle.std.specs.Prelude.{◌≡◌, ℕ, Bool, true, false, nat_lt, if◌then◌else◌, List, [], ◌∷◌, drop, length, Option, Some, IfOk, IfSome, IsSome, Result, Ok, Err}
-use Rattle.std.specs.List.{find, slice_get}
-use Rattle.std.specs.Option.{option_map, option_and_then}
-use Rattle.std.specs.Str.{bytes_eq}
-use Rattle.cd_io.specs.declared.world.OutFault.{OutFault}
-use Rattle.cd_io.specs.declared.world.OutFault.TheVariants as fault
 use Rattle.cd_io.specs.Causes.{Counts}
 use Rattle.cd_io.specs.Source.{SourceTells}
+use Rattle.cd_io.specs.declared.world.OutFault.TheVariants as fault
+use Rattle.cd_io.specs.declared.world.OutFault.{OutFault}
+use Rattle.std.specs.List.{find, slice_get}
+use Rattle.std.specs.Option.{option_and_then, option_map}
+use Rattle.std.specs.Prelude.{Bool, Err, IfOk, IfSome, IsSome, List, Ok, Option, Result, Some, [], drop, false, if◌then◌else◌, length, nat_lt, true, ℕ, ◌∷◌, ◌≡◌}
+use Rattle.std.specs.Str.{bytes_eq}
 
 -- a path, and the texts of its next openings in order: the last stands for all later ones
 pub record FileTells : Type 0 where

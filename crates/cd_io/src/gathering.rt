@@ -1,8 +1,8 @@
 //! Replies gathered, so that many go out in one piece.
-ghost use Rattle.std.specs.Prelude.{◌≡◌, ◌≤◌, ◌<◌, ◌||◌, ◌⊎◌, ◌++◌, true, false, ℕ, [], drop, length, vec_capacity, Ok, IfOk, OnOk, is_err};
-ghost use Rattle.cd_io.specs.declared.gathering.TheConstants.{GATHER_LIMIT};
 ghost use Rattle.cd_io.specs.Gathered.{Finishes, Flushes, gathered};
-ghost use Rattle.cd_io.specs.Link.{heard_count, Hears, Says};
+ghost use Rattle.cd_io.specs.Link.{Hears, Says, heard_count};
+ghost use Rattle.cd_io.specs.declared.gathering.TheConstants.{GATHER_LIMIT};
+ghost use Rattle.std.specs.Prelude.{IfOk, Ok, OnErr, OnOk, [], drop, false, is_err, length, true, vec_capacity, ℕ, ◌++◌, ◌<◌, ◌||◌, ◌≡◌, ◌≤◌, ◌⊎◌};
 
 use crate::{Failed, Heard, Link};
 use std::alloc::Global;
@@ -13,8 +13,8 @@ pub const GATHER_LIMIT: usize = 65_536;
 /// A link over another that keeps what is said, and says it before it hears again, or where its room is full. From the
 /// first end or quiet on it keeps nothing. Where memory for its room is lacking, it keeps nothing at all.
 ///
-/// What it says late may fail late: a call of `hear` fails where it can't say what is kept. Of that just the bytes that the
-/// inner link didn't take are kept on.
+/// What it says late may fail late: a call of `hear` fails where it can't say what is kept. Of that just the bytes
+/// that the inner link didn't take are kept on.
 #[derive(Drop)]
 pub struct Gathering<L> {
     link: L,
@@ -97,9 +97,10 @@ impl<L: Link> Gathering<L> {
         }
     }
 
-    /// Says all that is kept to the inner link.
+    /// Says all that is kept to the inner link. Where nothing is kept, it can't fail.
     pub fn flush(&mut self) -> Result<(), Failed>
         ensures kept { OnOk result (kept_of self.new ≡ []) }
+        ensures failed { OnErr result (0 < length (kept_of self.old)) }
         ensures through { is_through self.new ≡ is_through self.old }
         ensures room { room_of self.new ≡ room_of self.old }
         ensures flushes { Flushes (is_err result)
@@ -111,11 +112,12 @@ impl<L: Link> Gathering<L> {
         answer
     }
 
-    /// Says all that is kept to the inner link, and gives it back.
+    /// Says all that is kept to the inner link, and gives it back. Where nothing is kept, it can't fail.
     pub fn finish(self) -> (L, Result<(), Failed>)
-        ensures { Finishes (is_err result.1)
+        ensures finishes { Finishes (is_err result.1)
             (⟦<Gathering<L> as Link>⟧.link_tells self)
             (L.link_tells result.0) }
+        ensures failed { OnErr result.1 (0 < length (kept_of self)) }
     {
         let mut gathering = self;
         let flushed = gathering.flush();

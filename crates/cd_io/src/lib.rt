@@ -1,7 +1,8 @@
 //! What the daemon asks of the outside: links, datagrams, files, clocks, dice, and the world that hands these out.
 //!
 //! - Stands on std alone, and takes no handle.
-//! - Read first `specs/Link.antt`, then `Source.antt`, `World.antt`, `Packets.antt`; `Causes.antt` says when a call may fail.
+//! - Read first `specs/Link.antt`, then `Source.antt`, `World.antt`, `Packets.antt`; `Causes.antt` says when a call
+//!   may fail.
 //! - What was told goes on as the calls say, or isn't told any more; a count rises just in a call that answers so.
 //! - A change begins with the trait, in `traits.rt`, `packets.rt`, `source.rt` or `world.rt`.
 #![tactic(auto)]

@@ -1,7 +1,7 @@
 //! Datagrams from peers.
-ghost use Rattle.std.specs.Prelude.{◌≤◌, length};
 ghost use Rattle.cd_io.specs.Link.{heard_count};
 ghost use Rattle.cd_io.specs.Packets.{Nexts, PacketsTell};
+ghost use Rattle.std.specs.Prelude.{length, ◌≤◌};
 
 use crate::{Failed, Heard};
 use std::marker::Send;

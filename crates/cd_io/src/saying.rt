@@ -1,7 +1,7 @@
 //! Whole texts on a link.
-ghost use Rattle.std.specs.Prelude.{◌≡◌, [], OnOk, OnErr, is_err};
 ghost use Rattle.cd_io.specs.Causes.{Counts};
 ghost use Rattle.cd_io.specs.Link.{SaidInPart, Spoke};
+ghost use Rattle.std.specs.Prelude.{OnErr, OnOk, [], is_err, ◌≡◌};
 
 use crate::{Failed, Link};
 

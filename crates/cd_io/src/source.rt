@@ -1,8 +1,8 @@
 //! Texts that are read from their beginning to their end.
-ghost use Rattle.std.specs.Prelude.{◌≡◌, ◌≤◌, ◌<◌, ℕ, List, length, Err, IfOk, IfSome};
 ghost use Rattle.cd_io.specs.Causes.{Counts};
-ghost use Rattle.cd_io.specs.Source.{is_reading_fault, IsWhole, read_count, Reads, SourceTells};
+ghost use Rattle.cd_io.specs.Source.{IsWhole, Reads, SourceTells, is_reading_fault, read_count};
 ghost use Rattle.cd_io.specs.Told.{Takes};
+ghost use Rattle.std.specs.Prelude.{Err, IfOk, IfSome, List, length, ℕ, ◌<◌, ◌≡◌, ◌≤◌};
 
 use crate::Failed;
 use std::alloc::{AllocError, Global};

@@ -1,9 +1,9 @@
 //! What the daemon asks of the outside.
-ghost use Rattle.std.specs.Prelude.{◌≡◌, ◌<◌, ◌≤◌, true, ℕ, length, Option, IfSome, IfOk, Ok, OnErr, OnOk, is_err};
-ghost use Rattle.std.specs.Option.{option_map};
 ghost use Rattle.cd_io.specs.Causes.{Counts};
-ghost use Rattle.cd_io.specs.Link.{heard_count, Hears, LinkTells, Says, SaysWhole};
+ghost use Rattle.cd_io.specs.Link.{Hears, LinkTells, Says, SaysWhole, heard_count};
 ghost use Rattle.cd_io.specs.Told.{clock_after, dice_after};
+ghost use Rattle.std.specs.Option.{option_map};
+ghost use Rattle.std.specs.Prelude.{IfOk, IfSome, Ok, OnErr, OnOk, Option, is_err, length, true, ℕ, ◌<◌, ◌≡◌, ◌≤◌};
 
 use std::marker::Send;
 
@@ -50,8 +50,8 @@ pub trait Link: Send + Drop {
         ensures some { IfOk result (λ n. 0 < length text.now → 0 < n) }
         ensures says { Says result text.now (link_tells self.old) (link_tells self.new) };
 
-    /// Says a text to the peer: it is offered in one piece, and again from the first byte that wasn't taken. Answers how
-    /// many of its bytes were said: all where no call failed, and fewer where one did.
+    /// Says a text to the peer: it is offered in one piece, and again from the first byte that wasn't taken. Answers
+    /// how many of its bytes were said: all where no call failed, and fewer where one did.
     fn say_whole(&mut self, text: &[u8]) -> (usize, Result<(), Failed>)
         ensures bound { result.0 ≤ length text.now }
         ensures whole { OnOk result.1 (result.0 ≡ length text.now) }

@@ -1,7 +1,7 @@
 //! What hands out the objects of the outside.
-ghost use Rattle.std.specs.Prelude.{◌≡◌, true, ℕ, Option};
 ghost use Rattle.cd_io.specs.Causes.{Counts};
 ghost use Rattle.cd_io.specs.World.{Opens, Shuts, WorldTells};
+ghost use Rattle.std.specs.Prelude.{Option, true, ℕ, ◌≡◌};
 
 use crate::{Clock, Dice, Source};
 

@@ -1,23 +1,23 @@
 -- What printed numbers read as.
-use Rattle.std.proofs.Common.{◌≡◌, ℕ, suc, ◌+◌, ◌*◌, ◌/◌, ◌%◌, ◌^◌, ◌<◌, ◌≤◌, Bool, true, false, cond, List, [], ◌∷◌, ◌++◌, length, take, drop, Option, Some, None, refl, ap, sym, ◌∙◌, arith, ℤ, pos}
-use Rattle.std.specs.Prelude.{nat_le, nat_lt, nat_eq, nat_abs, negsuc, neg_ℤ, Ok, Err}
-use Rattle.std.specs.Char.{is_ascii_digit}
-use Rattle.std.specs.Fmt.{decimal}
-use Rattle.std.specs.List.{list_any, list_all, position, position_or_len, before_first, after_first}
-use Rattle.std.specs.Str.Parse.{digits_value, starts_with_minus, without_leading_sign}
-use Rattle.std.proofs.Math.Seq.{take-append_seam, drop-append-add, take-length}
-use Rattle.std.proofs.lemmas.Bool.{and_parts, lt-ltb, le-ltb, leb-true, leb-false}
-use Rattle.std.proofs.lemmas.Fmt.{decimal_is_IsNumeral_wide, length-decimal-le_wide}
-use Rattle.std.proofs.lemmas.List.Folds.{list_any-append, list_all-append}
-use Rattle.cd_value.proofs.Cuts.{place_behind, place_none}
-use Rattle.cd_value.specs.Print.{six_digits, unsigned_text, millionths_text}
-use Rattle.cd_text.specs.Digits.{is_dot, after_place}
+use Rattle.cd_laws.proofs.Digits.{digits_pass, none_of_digits, not_digit, printed_value, six_pass}
+use Rattle.cd_laws.specs.ReadBack.{read_back}
+use Rattle.cd_text.proofs.Powers.{none_above, some_below}
+use Rattle.cd_text.specs.Digits.{after_place, is_dot}
 use Rattle.cd_text.specs.Millionths.{bounded_millionths}
 use Rattle.cd_text.specs.Number.{Parts, is_e, is_number, number_of, parts_of, value, with_sign}
 use Rattle.cd_text.specs.declared.fault.NumFault.TheVariants.{BadNumber, OutOfRange}
-use Rattle.cd_text.proofs.Powers.{none_above, some_below}
-use Rattle.cd_laws.specs.ReadBack.{read_back}
-use Rattle.cd_laws.proofs.Digits.{digits_pass, six_pass, not_digit, none_of_digits, printed_value}
+use Rattle.cd_value.proofs.Cuts.{place_behind, place_none}
+use Rattle.cd_value.specs.Print.{millionths_text, six_digits, unsigned_text}
+use Rattle.std.proofs.Common.{Bool, List, None, Option, Some, [], ap, arith, cond, drop, false, length, pos, refl, suc, sym, take, true, ℕ, ℤ, ◌%◌, ◌*◌, ◌++◌, ◌+◌, ◌/◌, ◌<◌, ◌^◌, ◌∙◌, ◌∷◌, ◌≡◌, ◌≤◌}
+use Rattle.std.proofs.Math.Seq.{drop-append-add, take-append_seam, take-length}
+use Rattle.std.proofs.lemmas.Bool.{and_parts, le-ltb, leb-false, leb-true, lt-ltb}
+use Rattle.std.proofs.lemmas.Fmt.{decimal_is_IsNumeral_wide, length-decimal-le_wide}
+use Rattle.std.proofs.lemmas.List.Folds.{list_all-append, list_any-append}
+use Rattle.std.specs.Char.{is_ascii_digit}
+use Rattle.std.specs.Fmt.{decimal}
+use Rattle.std.specs.List.{after_first, before_first, list_all, list_any, position, position_or_len}
+use Rattle.std.specs.Prelude.{Err, Ok, nat_abs, nat_eq, nat_le, nat_lt, neg_ℤ, negsuc}
+use Rattle.std.specs.Str.Parse.{digits_value, starts_with_minus, without_leading_sign}
 
 -- ---- where a printed number is cut
 

@@ -1,8 +1,8 @@
 -- What printed numbers read as.
-use Rattle.std.specs.Prelude.{ℤ, nat_abs, nat_le, Result, Ok, Err, if◌then◌else◌}
-use Rattle.cd_text.specs.declared.fault.NumFault.{NumFault}
 use Rattle.cd_text.specs.declared.fault.NumFault.TheVariants.{OutOfRange}
+use Rattle.cd_text.specs.declared.fault.NumFault.{NumFault}
 use Rattle.cd_value.specs.declared.numbers.TheConstants.{NUMBER_LIMIT}
+use Rattle.std.specs.Prelude.{Err, Ok, Result, if◌then◌else◌, nat_abs, nat_le, ℤ}
 
 -- the number of millionths itself, which is out of range above the limit in magnitude
 abbrev pub read_back : ℤ → Result ℤ NumFault

@@ -1,18 +1,18 @@
 -- The texts of a packet without a refusal make an identifier.
-use Rattle.std.proofs.Common.{◌≡◌, ℕ, zero, suc, ◌≤◌, cond, ◌&&◌, take, Bool, true, false, not, ◌||◌, List, [], ◌∷◌, length, map, refl, sym, ap, ◌∙◌, arith}
-use Rattle.std.specs.Prelude.{nat_le, slice_index}
-use Rattle.std.specs.Fmt.{is_char_start}
-use Rattle.std.specs.Fmt.Cut.{floor_char_boundary}
-use Rattle.std.specs.List.{list_any, list_all}
-use Rattle.std.proofs.lemmas.Bool.{or_parts, and_parts, le-leb, leb-true, ltb-false, not-false}
-use Rattle.std.proofs.lemmas.Bool.Decides.{nat_tests}
-use Rattle.std.proofs.lemmas.List.{length-map, length-take}
-use Rattle.cd_value.specs.Clean.{clean_byte, clean_field, longest_front}
-use Rattle.cd_value.specs.Identifier.{Fields, has_bad_field, has_long_field, has_slash, is_control, is_slash, is_empty, is_field, is_identifier, is_long, is_type_byte}
-use Rattle.cd_value.proofs.Cleaned.{is_field-clean_field, slash-clean_field}
+use Rattle.cd_net.proofs.Texts.{cleaned-kept}
 use Rattle.cd_net.specs.Clean.{cleaned, is_replaced}
 use Rattle.cd_net.specs.Items.{clean_texts, is_message, message_of}
-use Rattle.cd_net.proofs.Texts.{cleaned-kept}
+use Rattle.cd_value.proofs.Cleaned.{is_field-clean_field, slash-clean_field}
+use Rattle.cd_value.specs.Clean.{clean_byte, clean_field, longest_front}
+use Rattle.cd_value.specs.Identifier.{Fields, has_bad_field, has_long_field, has_slash, is_control, is_empty, is_field, is_identifier, is_long, is_slash, is_type_byte}
+use Rattle.std.proofs.Common.{Bool, List, [], ap, arith, cond, false, length, map, not, refl, suc, sym, take, true, zero, ℕ, ◌&&◌, ◌||◌, ◌∙◌, ◌∷◌, ◌≡◌, ◌≤◌}
+use Rattle.std.proofs.lemmas.Bool.Decides.{nat_tests}
+use Rattle.std.proofs.lemmas.Bool.{and_parts, le-leb, leb-true, ltb-false, not-false, or_parts}
+use Rattle.std.proofs.lemmas.List.{length-map, length-take}
+use Rattle.std.specs.Fmt.Cut.{floor_char_boundary}
+use Rattle.std.specs.Fmt.{is_char_start}
+use Rattle.std.specs.List.{list_all, list_any}
+use Rattle.std.specs.Prelude.{nat_le, slice_index}
 
 -- a text that isn't too long isn't cut
 uncut : (slash : Bool) (text : List ℕ) → is_long text ≡ false → clean_field slash text ≡ cleaned slash text

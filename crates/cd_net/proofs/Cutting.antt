@@ -1,12 +1,12 @@
 -- A packet is cut in one way.
-use Rattle.std.proofs.Common.{◌≡◌, ℕ, zero, suc, ◌+◌, ◌≤◌, ◌<◌, ◌==◌, Bool, true, false, cond, not, ◌||◌, List, [], ◌∷◌, length, Option, Some, None, refl, sym, ap, ◌∙◌, subst, arith}
-use Rattle.std.specs.Prelude.{nat_lt}
-use Rattle.std.proofs.lemmas.Bool.{or_parts, ltb-false}
-use Rattle.cd_net.specs.declared.packet.Part.{Part}
-use Rattle.cd_net.specs.declared.packet.PacketEnd.{PacketEnd}
-use Rattle.cd_net.specs.declared.packet.PacketEnd.TheVariants.{Whole, BadLength, Encrypted}
-use Rattle.cd_net.specs.declared.numbers.TheConstants.{ENCRYPTION}
 use Rattle.cd_net.specs.Packet.{AreParts, IsCutInOneWay, end_at, has_bad_length, has_length_of_kind, part_at, u16_at}
+use Rattle.cd_net.specs.declared.numbers.TheConstants.{ENCRYPTION}
+use Rattle.cd_net.specs.declared.packet.PacketEnd.TheVariants.{BadLength, Encrypted, Whole}
+use Rattle.cd_net.specs.declared.packet.PacketEnd.{PacketEnd}
+use Rattle.cd_net.specs.declared.packet.Part.{Part}
+use Rattle.std.proofs.Common.{Bool, List, None, Option, Some, [], ap, arith, cond, false, length, not, refl, subst, suc, sym, true, zero, ℕ, ◌+◌, ◌<◌, ◌==◌, ◌||◌, ◌∙◌, ◌∷◌, ◌≡◌, ◌≤◌}
+use Rattle.std.proofs.lemmas.Bool.{ltb-false, or_parts}
+use Rattle.std.specs.Prelude.{nat_lt}
 
 pub parts_once : (bytes : List ℕ) (place : ℕ) (parts others : List Part) (end last : PacketEnd)
     → AreParts bytes place parts end → AreParts bytes place others last → (others ≡ parts) × (last ≡ end)

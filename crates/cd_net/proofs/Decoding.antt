@@ -1,21 +1,21 @@
 -- The parts that were read, as the loop that decodes a packet keeps them.
-use Rattle.std.proofs.Common.{◌≡◌, ℕ, ◌+◌, List, [], ◌∷◌, ◌++◌, Option, Some, None, Result, refl, sym, ap, ◌∙◌, subst, append_assoc}
+use Rattle.cd_net.proofs.Cutting.{cut_in_one_way, parts_once}
+use Rattle.cd_net.proofs.Fields.{in_force-push}
+use Rattle.cd_net.specs.Carried.{with_field}
+use Rattle.cd_net.specs.InForce.{InForce, in_force}
+use Rattle.cd_net.specs.Items.{IsDecoded, SaysOneThing, each_behind, item_in, items_of, outcome, outcome_behind, refusal_in, refused_of}
+use Rattle.cd_net.specs.Packet.{AreParts, end_at, part_at, payload}
+use Rattle.cd_net.specs.Refusals.{set_in_force}
+use Rattle.cd_net.specs.declared.item.Decoded.{Decoded}
+use Rattle.cd_net.specs.declared.item.Item.{Item}
+use Rattle.cd_net.specs.declared.item.ItemRefusal.{ItemRefusal}
+use Rattle.cd_net.specs.declared.packet.PacketEnd.{PacketEnd}
+use Rattle.cd_net.specs.declared.packet.Part.{Part}
+use Rattle.cd_value.specs.declared.data.DataSet.{DataSet}
+use Rattle.std.proofs.Common.{List, None, Option, Result, Some, [], ap, append_assoc, refl, subst, sym, ℕ, ◌++◌, ◌+◌, ◌∙◌, ◌∷◌, ◌≡◌}
 use Rattle.std.proofs.lemmas.List.{append-nil}
 use Rattle.std.specs.List.{cons_option}
 use Rattle.std.specs.Option.{option_to_list}
-use Rattle.cd_value.specs.declared.data.DataSet.{DataSet}
-use Rattle.cd_net.specs.declared.item.Item.{Item}
-use Rattle.cd_net.specs.declared.item.Decoded.{Decoded}
-use Rattle.cd_net.specs.declared.item.ItemRefusal.{ItemRefusal}
-use Rattle.cd_net.specs.declared.packet.Part.{Part}
-use Rattle.cd_net.specs.declared.packet.PacketEnd.{PacketEnd}
-use Rattle.cd_net.specs.Packet.{AreParts, end_at, part_at, payload}
-use Rattle.cd_net.specs.InForce.{InForce, in_force}
-use Rattle.cd_net.specs.Carried.{with_field}
-use Rattle.cd_net.specs.Items.{IsDecoded, SaysOneThing, each_behind, outcome, outcome_behind, item_in, refusal_in, items_of, refused_of}
-use Rattle.cd_net.specs.Refusals.{set_in_force}
-use Rattle.cd_net.proofs.Cutting.{cut_in_one_way, parts_once}
-use Rattle.cd_net.proofs.Fields.{in_force-push}
 
 cons-append : {A : Type 0} (o : Option A) (xs ys : List A) → cons_option o xs ++ ys ≡ cons_option o (xs ++ ys)
 cons-append None xs ys = refl

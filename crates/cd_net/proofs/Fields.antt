@@ -1,16 +1,16 @@
 -- A field carried forward is the one that looking back finds.
-use Rattle.std.proofs.Common.{◌≡◌, ℕ, ◌==◌, ◌++◌, List, [], ◌∷◌, reverse, Option, Some, cond, Bool, true, false, refl, sym, ap, ◌∙◌}
+use Rattle.cd_net.specs.Carried.{set_behind, with_field}
+use Rattle.cd_net.specs.InForce.{InForce, in_force, last_of}
+use Rattle.cd_net.specs.Packet.{payload}
+use Rattle.cd_net.specs.Payload.{payload_text}
+use Rattle.cd_net.specs.Refusals.{set_in_force, set_of_type}
+use Rattle.cd_net.specs.declared.numbers.TheConstants.{TYPE}
+use Rattle.cd_net.specs.declared.packet.Part.{Part}
+use Rattle.cd_value.specs.declared.data.DataSet.{DataSet}
+use Rattle.std.proofs.Common.{Bool, List, Option, Some, [], ap, cond, false, refl, reverse, sym, true, ℕ, ◌++◌, ◌==◌, ◌∙◌, ◌∷◌, ◌≡◌}
 use Rattle.std.proofs.lemmas.List.{reverse-append}
 use Rattle.std.specs.List.{find}
 use Rattle.std.specs.Option.{option_map_or}
-use Rattle.cd_net.specs.declared.packet.Part.{Part}
-use Rattle.cd_net.specs.Packet.{payload}
-use Rattle.cd_net.specs.Payload.{payload_text}
-use Rattle.cd_net.specs.declared.numbers.TheConstants.{TYPE}
-use Rattle.cd_value.specs.declared.data.DataSet.{DataSet}
-use Rattle.cd_net.specs.InForce.{InForce, last_of, in_force}
-use Rattle.cd_net.specs.Carried.{set_behind, with_field}
-use Rattle.cd_net.specs.Refusals.{set_in_force, set_of_type}
 
 -- behind one more part it is what that part says, where it is of the kind, and what it was before otherwise
 pub last_of-push : {A : Type 0} (is_kind : ℕ → Bool) (read : Part → A) (default : A) (before : List Part) (part : Part)

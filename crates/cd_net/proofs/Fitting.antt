@@ -1,33 +1,33 @@
 -- A values part that isn't refused has the fields of an identifier, and a list that fits the types.
-use Rattle.std.proofs.Common.{◌≡◌, ℕ, zero, suc, ◌==◌, Bool, true, false, cond, not, ◌&&◌, ◌||◌, List, [], ◌∷◌, ◌++◌, length, drop, Option, Some, None, Result, refl, sym, ap, ◌∙◌, subst, arith}
-use Rattle.std.specs.Prelude.{IfSome, is_none, unwrap_or}
-use Rattle.std.specs.List.{cons_option, find, list_all, list_any, zip}
-use Rattle.std.specs.Str.{bytes_eq}
-use Rattle.std.specs.Int.{w64, cast_signed}
 use Rattle.byteorder.specs.Endian.{big_number}
-use Rattle.std.proofs.lemmas.Bool.{or_parts, and_parts, and_from, not-false, eqb-true, eq-eqb, both_ways}
+use Rattle.cd_net.proofs.Cleaned.{field_clean, is_message-message_of, type_stays}
+use Rattle.cd_net.proofs.Values.{coded_values, payload_values_are}
+use Rattle.cd_net.specs.InForce.{InForce, in_force}
+use Rattle.cd_net.specs.Items.{each_behind, is_sound, item_fits, item_in, items_of, list_of, list_outcome, note_of, note_outcome, or_refusal, outcome, outcome_behind}
+use Rattle.cd_net.specs.Packet.{payload}
+use Rattle.cd_net.specs.Payload.{code_of, coded_value, codes_of, numbers_of, payload_text}
+use Rattle.cd_net.specs.Refusals.{are_texts, are_times, first_refusal, has_time, is_code_of, is_gauge_code, list_tests, note_tests, set_in_force, set_of_type, sources_of, texts_of}
+use Rattle.cd_net.specs.declared.item.Item.TheVariants as items
+use Rattle.cd_net.specs.declared.item.Item.{Item}
+use Rattle.cd_net.specs.declared.item.ItemRefusal.TheVariants.{BadField, Gauge, NoTime, NotText, UnknownType, WrongCount, WrongKind}
+use Rattle.cd_net.specs.declared.item.ItemRefusal.{ItemRefusal}
+use Rattle.cd_net.specs.declared.numbers.TheConstants.{MESSAGE, VALUES}
+use Rattle.cd_net.specs.declared.packet.Part.{Part}
 use Rattle.cd_types.specs.Types.{fits, fits_set, fits_source, is_in_range, is_same_kind, kind_of, set_named}
+use Rattle.cd_value.specs.Identifier.{Fields, has_bad_field, has_long_field, is_long}
 use Rattle.cd_value.specs.declared.data.DataSet.{DataSet}
 use Rattle.cd_value.specs.declared.data.DataSource.{DataSource}
-use Rattle.cd_value.specs.declared.data.DsType.{DsType}
 use Rattle.cd_value.specs.declared.data.DsType.TheVariants as kinds
+use Rattle.cd_value.specs.declared.data.DsType.{DsType}
+use Rattle.cd_value.specs.declared.data.Value.TheVariants.{Absolute, Counter, Derive}
 use Rattle.cd_value.specs.declared.data.Value.{Value}
-use Rattle.cd_value.specs.declared.data.Value.TheVariants.{Counter, Derive, Absolute}
 use Rattle.cd_value.specs.declared.data.ValueList.{ValueList}
-use Rattle.cd_value.specs.Identifier.{Fields, has_bad_field, has_long_field, is_long}
-use Rattle.cd_net.specs.declared.item.Item.{Item}
-use Rattle.cd_net.specs.declared.item.Item.TheVariants as items
-use Rattle.cd_net.specs.declared.item.ItemRefusal.{ItemRefusal}
-use Rattle.cd_net.specs.declared.item.ItemRefusal.TheVariants.{NotText, BadField, Gauge, UnknownType, WrongCount, WrongKind, NoTime}
-use Rattle.cd_net.specs.declared.numbers.TheConstants.{VALUES, MESSAGE}
-use Rattle.cd_net.specs.declared.packet.Part.{Part}
-use Rattle.cd_net.specs.InForce.{InForce, in_force}
-use Rattle.cd_net.specs.Packet.{payload}
-use Rattle.cd_net.specs.Items.{each_behind, is_sound, item_fits, item_in, items_of, list_of, list_outcome, note_of, note_outcome, or_refusal, outcome, outcome_behind}
-use Rattle.cd_net.specs.Payload.{code_of, codes_of, coded_value, numbers_of, payload_text}
-use Rattle.cd_net.specs.Refusals.{are_texts, are_times, first_refusal, has_time, is_code_of, is_gauge_code, list_tests, note_tests, set_in_force, set_of_type, sources_of, texts_of}
-use Rattle.cd_net.proofs.Values.{coded_values, payload_values_are}
-use Rattle.cd_net.proofs.Cleaned.{field_clean, is_message-message_of, type_stays}
+use Rattle.std.proofs.Common.{Bool, List, None, Option, Result, Some, [], ap, arith, cond, drop, false, length, not, refl, subst, suc, sym, true, zero, ℕ, ◌&&◌, ◌++◌, ◌==◌, ◌||◌, ◌∙◌, ◌∷◌, ◌≡◌}
+use Rattle.std.proofs.lemmas.Bool.{and_from, and_parts, both_ways, eq-eqb, eqb-true, not-false, or_parts}
+use Rattle.std.specs.Int.{cast_signed, w64}
+use Rattle.std.specs.List.{cons_option, find, list_all, list_any, zip}
+use Rattle.std.specs.Prelude.{IfSome, is_none, unwrap_or}
+use Rattle.std.specs.Str.{bytes_eq}
 
 -- ---- nothing is refused
 

@@ -1,14 +1,14 @@
 -- What is read of a payload, and what cleaning makes of texts.
-use Rattle.std.proofs.Common.{◌≡◌, ℕ, ◌+◌, ◌==◌, Bool, true, false, cond, not, ◌&&◌, List, [], ◌∷◌, length, Some, None, refl, sym, ap, ◌∙◌}
-use Rattle.std.specs.Prelude.{nat_lt}
-use Rattle.std.specs.List.{list_any, list_all, position, position_or_len, before_first}
-use Rattle.std.specs.Str.{IsUtf8, is_utf8}
-use Rattle.std.proofs.lemmas.Bool.{or_parts, and_parts, not-true, false_from_ne_true, eq-eqb, ltb-false}
-use Rattle.std.proofs.lemmas.List.{take_all}
-use Rattle.std.proofs.lemmas.Str.{is_utf8-from_IsUtf8, IsUtf8-from_is_utf8}
-use Rattle.cd_value.specs.Identifier.{is_control, is_slash}
-use Rattle.cd_net.specs.Payload.{is_zero, payload_text}
 use Rattle.cd_net.specs.Clean.{cleaned, is_replaced}
+use Rattle.cd_net.specs.Payload.{is_zero, payload_text}
+use Rattle.cd_value.specs.Identifier.{is_control, is_slash}
+use Rattle.std.proofs.Common.{Bool, List, None, Some, [], ap, cond, false, length, not, refl, sym, true, ℕ, ◌&&◌, ◌+◌, ◌==◌, ◌∙◌, ◌∷◌, ◌≡◌}
+use Rattle.std.proofs.lemmas.Bool.{and_parts, eq-eqb, false_from_ne_true, ltb-false, not-true, or_parts}
+use Rattle.std.proofs.lemmas.List.{take_all}
+use Rattle.std.proofs.lemmas.Str.{IsUtf8-from_is_utf8, is_utf8-from_IsUtf8}
+use Rattle.std.specs.List.{before_first, list_all, list_any, position, position_or_len}
+use Rattle.std.specs.Prelude.{nat_lt}
+use Rattle.std.specs.Str.{IsUtf8, is_utf8}
 
 -- ---- a text in a payload
 

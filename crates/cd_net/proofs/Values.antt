@@ -1,9 +1,9 @@
 -- The values of some codes, one behind the other.
-use Rattle.std.proofs.Common.{◌≡◌, ℕ, ◌+◌, ◌*◌, List, [], ◌∷◌, drop, refl, ap, ◌∙◌, arith}
-use Rattle.std.specs.List.{cons_option, enumerate_from, filter_map}
-use Rattle.std.proofs.lemmas.List.{drop-drop}
-use Rattle.cd_value.specs.declared.data.Value.{Value}
 use Rattle.cd_net.specs.Payload.{coded_value, codes_of, numbers_of, payload_values}
+use Rattle.cd_value.specs.declared.data.Value.{Value}
+use Rattle.std.proofs.Common.{List, [], ap, arith, drop, refl, ℕ, ◌*◌, ◌+◌, ◌∙◌, ◌∷◌, ◌≡◌}
+use Rattle.std.proofs.lemmas.List.{drop-drop}
+use Rattle.std.specs.List.{cons_option, enumerate_from, filter_map}
 
 -- the values of some codes, each of the next eight bytes
 abbrev pub coded_values : List ℕ → List ℕ → List Value

@@ -1,14 +1,14 @@
 -- The fields in force as they are carried forward.
-use Rattle.std.specs.Prelude.{ℕ, ◌==◌, List, Option, option_map, if◌then◌else◌}
-use Rattle.cd_value.specs.declared.data.DataSet.{DataSet}
-use Rattle.cd_net.specs.declared.field.Field.{Field}
+use Rattle.cd_net.specs.InForce.{InForce, is_interval, is_time, units_of}
+use Rattle.cd_net.specs.Payload.{payload_number, payload_text}
+use Rattle.cd_net.specs.Refusals.{set_in_force}
 use Rattle.cd_net.specs.declared.carried.Carried.{Carried}
 use Rattle.cd_net.specs.declared.carried.CleanTexts.{CleanTexts}
+use Rattle.cd_net.specs.declared.field.Field.{Field}
+use Rattle.cd_net.specs.declared.numbers.TheConstants.{HOST, INTERVAL, PLUGIN, PLUGIN_INSTANCE, SEVERITY, TIME, TYPE, TYPE_INSTANCE}
 use Rattle.cd_value.specs.Identifier.{Fields}
-use Rattle.cd_net.specs.declared.numbers.TheConstants.{HOST, PLUGIN, PLUGIN_INSTANCE, TYPE, TYPE_INSTANCE, TIME, INTERVAL, SEVERITY}
-use Rattle.cd_net.specs.Payload.{payload_text, payload_number}
-use Rattle.cd_net.specs.InForce.{InForce, is_time, is_interval, units_of}
-use Rattle.cd_net.specs.Refusals.{set_in_force}
+use Rattle.cd_value.specs.declared.data.DataSet.{DataSet}
+use Rattle.std.specs.Prelude.{List, Option, if◌then◌else◌, option_map, ℕ, ◌==◌}
 
 -- the text of a field, if it is one
 abbrev pub text_in : Option Field → Option (List ℕ)

@@ -1,7 +1,7 @@
 -- How the texts of a packet are made fit to be fields.
-use Rattle.std.specs.Prelude.{ℕ, ◌||◌, ◌&&◌, Bool, List, map}
 use Rattle.cd_value.specs.Clean.{clean_byte}
 use Rattle.cd_value.specs.Identifier.{is_control, is_slash}
+use Rattle.std.specs.Prelude.{Bool, List, map, ℕ, ◌&&◌, ◌||◌}
 
 -- control characters become `_`, and slashes too where there may be none
 abbrev pub cleaned : Bool → List ℕ → List ℕ

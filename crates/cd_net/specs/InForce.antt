@@ -1,12 +1,12 @@
 -- The fields of a value list or a notification: of each kind of field, what the last part of that
 -- kind before it in the packet says.
-use Rattle.std.specs.Prelude.{ℕ, ◌==◌, ◌||◌, Bool, List, [], reverse, Option, Some, if◌then◌else◌}
+use Rattle.cd_net.specs.Packet.{payload}
+use Rattle.cd_net.specs.Payload.{payload_number, payload_text, units_of_seconds}
+use Rattle.cd_net.specs.declared.numbers.TheConstants.{HOST, INTERVAL, INTERVAL_HIGH_RESOLUTION, PLUGIN, PLUGIN_INSTANCE, SEVERITY, TIME, TIME_HIGH_RESOLUTION, TYPE, TYPE_INSTANCE}
+use Rattle.cd_net.specs.declared.packet.Part.{Part}
 use Rattle.std.specs.List.{find}
 use Rattle.std.specs.Option.{option_map_or}
-use Rattle.cd_net.specs.declared.numbers.TheConstants.{HOST, PLUGIN, PLUGIN_INSTANCE, TYPE, TYPE_INSTANCE, TIME, TIME_HIGH_RESOLUTION, INTERVAL, INTERVAL_HIGH_RESOLUTION, SEVERITY}
-use Rattle.cd_net.specs.declared.packet.Part.{Part}
-use Rattle.cd_net.specs.Packet.{payload}
-use Rattle.cd_net.specs.Payload.{payload_text, payload_number, units_of_seconds}
+use Rattle.std.specs.Prelude.{Bool, List, Option, Some, [], if◌then◌else◌, reverse, ℕ, ◌==◌, ◌||◌}
 
 -- The fields in force behind some parts. A text whose payload isn't one is none, and so is a time
 -- of too many seconds.

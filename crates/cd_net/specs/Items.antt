@@ -1,26 +1,26 @@
 -- What a packet says: for each values part and each message part an item, or why it gives none.
-use Rattle.std.specs.Prelude.{◌≡◌, ℕ, ◌==◌, Bool, true, false, not, ◌&&◌, nat_le, length, List, [], ◌∷◌, ◌++◌, Option, Some, None, unwrap_or, Result, Ok, Err, if◌then◌else◌}
-use Rattle.std.specs.List.{cons_option}
+use Rattle.cd_net.specs.Clean.{cleaned}
+use Rattle.cd_net.specs.InForce.{InForce, in_force}
+use Rattle.cd_net.specs.Packet.{AreParts, payload}
+use Rattle.cd_net.specs.Payload.{payload_text, payload_values}
+use Rattle.cd_net.specs.Refusals.{first_refusal, list_tests, note_tests, set_in_force, texts_of}
+use Rattle.cd_net.specs.declared.item.Decoded.{Decoded}
+use Rattle.cd_net.specs.declared.item.Item.TheVariants as items
+use Rattle.cd_net.specs.declared.item.Item.{Item}
+use Rattle.cd_net.specs.declared.item.ItemRefusal.{ItemRefusal}
+use Rattle.cd_net.specs.declared.numbers.TheConstants.{FAILURE_CODE, MESSAGE, VALUES, WARNING_CODE}
+use Rattle.cd_net.specs.declared.packet.Part.{Part}
 use Rattle.cd_types.specs.Types.{fits}
-use Rattle.cd_value.specs.declared.data.DataSet.{DataSet}
-use Rattle.cd_value.specs.declared.data.ValueList.{ValueList}
-use Rattle.cd_value.specs.declared.data.Notification.{Notification}
-use Rattle.cd_value.specs.declared.data.Severity.{Severity}
-use Rattle.cd_value.specs.declared.data.Severity.TheVariants.{Failure, Warning, Okay}
-use Rattle.cd_value.specs.declared.numbers.TheConstants.{MESSAGE_LIMIT}
 use Rattle.cd_value.specs.Clean.{longest_front}
 use Rattle.cd_value.specs.Identifier.{Fields, has_control, is_field}
-use Rattle.cd_net.specs.declared.item.Item.{Item}
-use Rattle.cd_net.specs.declared.item.Item.TheVariants as items
-use Rattle.cd_net.specs.declared.item.ItemRefusal.{ItemRefusal}
-use Rattle.cd_net.specs.declared.item.Decoded.{Decoded}
-use Rattle.cd_net.specs.declared.numbers.TheConstants.{VALUES, MESSAGE, FAILURE_CODE, WARNING_CODE}
-use Rattle.cd_net.specs.declared.packet.Part.{Part}
-use Rattle.cd_net.specs.Clean.{cleaned}
-use Rattle.cd_net.specs.Packet.{payload, AreParts}
-use Rattle.cd_net.specs.Payload.{payload_text, payload_values}
-use Rattle.cd_net.specs.InForce.{InForce, in_force}
-use Rattle.cd_net.specs.Refusals.{first_refusal, list_tests, note_tests, set_in_force, texts_of}
+use Rattle.cd_value.specs.declared.data.DataSet.{DataSet}
+use Rattle.cd_value.specs.declared.data.Notification.{Notification}
+use Rattle.cd_value.specs.declared.data.Severity.TheVariants.{Failure, Okay, Warning}
+use Rattle.cd_value.specs.declared.data.Severity.{Severity}
+use Rattle.cd_value.specs.declared.data.ValueList.{ValueList}
+use Rattle.cd_value.specs.declared.numbers.TheConstants.{MESSAGE_LIMIT}
+use Rattle.std.specs.List.{cons_option}
+use Rattle.std.specs.Prelude.{Bool, Err, List, None, Ok, Option, Result, Some, [], false, if◌then◌else◌, length, nat_le, not, true, unwrap_or, ℕ, ◌&&◌, ◌++◌, ◌==◌, ◌∷◌, ◌≡◌}
 
 -- ---- an item
 

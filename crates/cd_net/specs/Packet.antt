@@ -1,12 +1,12 @@
 -- The parts of a packet. A part is two bytes of kind, two bytes of length, which counts these four
 -- too, and a payload. All numbers are in network order.
-use Rattle.std.specs.Prelude.{◌≡◌, ℕ, ◌+◌, ◌*◌, ◌==◌, ◌||◌, ◌≤◌, Bool, true, not, IsTrue, nat_lt, List, [], ◌∷◌, length, drop, Option, Some, None, if◌then◌else◌}
-use Rattle.std.specs.List.{between}
 use Rattle.byteorder.specs.Endian.{big_number}
-use Rattle.cd_net.specs.declared.numbers.TheConstants.{TIME, TIME_HIGH_RESOLUTION, INTERVAL, INTERVAL_HIGH_RESOLUTION, SEVERITY, VALUES, ENCRYPTION}
-use Rattle.cd_net.specs.declared.packet.Part.{Part}
+use Rattle.cd_net.specs.declared.numbers.TheConstants.{ENCRYPTION, INTERVAL, INTERVAL_HIGH_RESOLUTION, SEVERITY, TIME, TIME_HIGH_RESOLUTION, VALUES}
+use Rattle.cd_net.specs.declared.packet.PacketEnd.TheVariants.{BadLength, Encrypted, Whole}
 use Rattle.cd_net.specs.declared.packet.PacketEnd.{PacketEnd}
-use Rattle.cd_net.specs.declared.packet.PacketEnd.TheVariants.{Whole, BadLength, Encrypted}
+use Rattle.cd_net.specs.declared.packet.Part.{Part}
+use Rattle.std.specs.List.{between}
+use Rattle.std.specs.Prelude.{Bool, IsTrue, List, None, Option, Some, [], drop, if◌then◌else◌, length, nat_lt, not, true, ℕ, ◌*◌, ◌+◌, ◌==◌, ◌||◌, ◌∷◌, ◌≡◌, ◌≤◌}
 
 -- the number in the two bytes at a place
 abbrev pub u16_at : List ℕ → ℕ → ℕ

@@ -1,15 +1,15 @@
 -- What a payload says.
-use Rattle.std.specs.Prelude.{ℕ, ◌+◌, ◌*◌, ◌==◌, ◌&&◌, Bool, List, length, take, drop, Option, Some, None, nat_lt, if◌then◌else◌}
-use Rattle.std.specs.List.{before_first, enumerate_from, filter_map}
-use Rattle.std.specs.Str.{is_utf8}
-use Rattle.std.specs.Int.{w64, cast_signed}
 use Rattle.byteorder.specs.Endian.{big_number}
-use Rattle.cd_value.specs.declared.data.Value.{Value}
-use Rattle.cd_value.specs.declared.data.Value.TheVariants.{Counter, Derive, Absolute}
-use Rattle.cd_value.specs.declared.data.DsType.{DsType}
+use Rattle.cd_net.specs.declared.numbers.TheConstants.{ABSOLUTE_CODE, COUNTER_CODE, DERIVE_CODE, GAUGE_CODE, SECONDS_LIMIT}
 use Rattle.cd_value.specs.declared.data.DsType.TheVariants as kinds
+use Rattle.cd_value.specs.declared.data.DsType.{DsType}
+use Rattle.cd_value.specs.declared.data.Value.TheVariants.{Absolute, Counter, Derive}
+use Rattle.cd_value.specs.declared.data.Value.{Value}
 use Rattle.cd_value.specs.declared.numbers.TheConstants.{SECOND}
-use Rattle.cd_net.specs.declared.numbers.TheConstants.{SECONDS_LIMIT, COUNTER_CODE, GAUGE_CODE, DERIVE_CODE, ABSOLUTE_CODE}
+use Rattle.std.specs.Int.{cast_signed, w64}
+use Rattle.std.specs.List.{before_first, enumerate_from, filter_map}
+use Rattle.std.specs.Prelude.{Bool, List, None, Option, Some, drop, if◌then◌else◌, length, nat_lt, take, ℕ, ◌&&◌, ◌*◌, ◌+◌, ◌==◌}
+use Rattle.std.specs.Str.{is_utf8}
 
 abbrev pub is_zero : ℕ → Bool
 is_zero byte = byte == 0

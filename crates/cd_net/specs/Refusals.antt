@@ -1,16 +1,16 @@
 -- Why a values part or a message part gives no item.
-use Rattle.std.specs.Prelude.{ℕ, ◌==◌, ◌||◌, ◌&&◌, Bool, not, List, [], ◌∷◌, length, Option, Some, None, is_some, is_none, unwrap_or, if◌then◌else◌}
-use Rattle.std.specs.List.{list_all, list_any, zip}
-use Rattle.std.specs.Option.{option_map_or}
+use Rattle.cd_net.specs.InForce.{InForce}
+use Rattle.cd_net.specs.Payload.{code_of, codes_of}
+use Rattle.cd_net.specs.declared.item.ItemRefusal.TheVariants.{BadField, BadSeverity, Gauge, NoTime, NotText, UnknownType, WrongCount, WrongKind}
+use Rattle.cd_net.specs.declared.item.ItemRefusal.{ItemRefusal}
+use Rattle.cd_net.specs.declared.numbers.TheConstants.{FAILURE_CODE, GAUGE_CODE, OKAY_CODE, WARNING_CODE}
 use Rattle.cd_types.specs.Types.{set_named}
+use Rattle.cd_value.specs.Identifier.{Fields, has_bad_field, has_long_field, is_long}
 use Rattle.cd_value.specs.declared.data.DataSet.{DataSet}
 use Rattle.cd_value.specs.declared.data.DataSource.{DataSource}
-use Rattle.cd_value.specs.Identifier.{Fields, has_bad_field, has_long_field, is_long}
-use Rattle.cd_net.specs.declared.item.ItemRefusal.{ItemRefusal}
-use Rattle.cd_net.specs.declared.item.ItemRefusal.TheVariants.{NotText, BadField, Gauge, UnknownType, WrongCount, WrongKind, BadSeverity, NoTime}
-use Rattle.cd_net.specs.declared.numbers.TheConstants.{GAUGE_CODE, FAILURE_CODE, WARNING_CODE, OKAY_CODE}
-use Rattle.cd_net.specs.Payload.{codes_of, code_of}
-use Rattle.cd_net.specs.InForce.{InForce}
+use Rattle.std.specs.List.{list_all, list_any, zip}
+use Rattle.std.specs.Option.{option_map_or}
+use Rattle.std.specs.Prelude.{Bool, List, None, Option, Some, [], if◌then◌else◌, is_none, is_some, length, not, unwrap_or, ℕ, ◌&&◌, ◌==◌, ◌||◌, ◌∷◌}
 
 -- the refusal of the first test that holds
 abbrev pub first_refusal : List (Bool × ItemRefusal) → Option ItemRefusal

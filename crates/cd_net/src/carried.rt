@@ -1,14 +1,14 @@
 //! The fields that parts carry forward to the values and messages behind them.
-ghost use Rattle.std.specs.Prelude.{◌≡◌, ℕ, List, [], length, nat_lt, unwrap_or, IfOk};
-ghost use Rattle.std.specs.List.{list_all};
-ghost use Rattle.std.specs.Option.{option_copied};
-ghost use Rattle.cd_value.specs.Identifier.{has_bad_field, has_long_field, is_long, is_type_byte};
-ghost use Rattle.cd_net.specs.Items.{clean_texts, interval_or};
-ghost use Rattle.cd_net.specs.Refusals.{are_texts, are_times, has_time, set_in_force, texts_of};
 ghost use Rattle.cd_net.specs.Carried.{as_fields, shown, text_in, with_field};
 ghost use Rattle.cd_net.specs.InForce.{in_force};
+ghost use Rattle.cd_net.specs.Items.{clean_texts, interval_or};
 ghost use Rattle.cd_net.specs.Packet.{IsOfKind};
 ghost use Rattle.cd_net.specs.Payload.{payload_text};
+ghost use Rattle.cd_net.specs.Refusals.{are_texts, are_times, has_time, set_in_force, texts_of};
+ghost use Rattle.cd_value.specs.Identifier.{has_bad_field, has_long_field, is_long, is_type_byte};
+ghost use Rattle.std.specs.List.{list_all};
+ghost use Rattle.std.specs.Option.{option_copied};
+ghost use Rattle.std.specs.Prelude.{IfOk, List, [], length, nat_lt, unwrap_or, ℕ, ◌≡◌};
 
 use crate::field::Field;
 use crate::numbers::{

@@ -1,8 +1,8 @@
 //! A packet cut into its parts.
-ghost use Rattle.std.specs.Prelude.{◌≡◌, ◌+◌, ◌≤◌, List, IfErr, IfOk, OnOk, Some, None, false, length};
-ghost use Rattle.cd_net.specs.declared.packet.Part.{Part};
-ghost use Rattle.cd_net.specs.declared.packet.PacketEnd.{PacketEnd};
 ghost use Rattle.cd_net.specs.Packet.{AreParts, IsOfKind, IsWhole, end_at, has_bad_length, has_length_of_kind, is_number, part_at, payload};
+ghost use Rattle.cd_net.specs.declared.packet.PacketEnd.{PacketEnd};
+ghost use Rattle.cd_net.specs.declared.packet.Part.{Part};
+ghost use Rattle.std.specs.Prelude.{IfErr, IfOk, List, None, OnOk, Some, false, length, ◌+◌, ◌≡◌, ◌≤◌};
 
 use crate::numbers::{
     ENCRYPTION, INTERVAL, INTERVAL_HIGH_RESOLUTION, SEVERITY, TIME, TIME_HIGH_RESOLUTION, VALUES,

@@ -1,11 +1,11 @@
 //! The items of a packet, in one pass that carries the fields forward.
-ghost use Rattle.std.specs.Prelude.{◌≡◌, ◌++◌, IfOk, IsTrue, OnOk, option_to_list};
-ghost use Rattle.std.specs.List.{list_all};
-ghost use Rattle.std.specs.Option.{option_copied};
 ghost use Rattle.cd_net.specs.Carried.{set_behind, shown};
 ghost use Rattle.cd_net.specs.Items.{IsDecoded, is_sound, item_fits, item_in, outcome, refusal_in};
-ghost use Rattle.cd_net.specs.declared.item.Decoded.{Decoded};
 ghost use Rattle.cd_net.specs.Packet.{IsOfKind};
+ghost use Rattle.cd_net.specs.declared.item.Decoded.{Decoded};
+ghost use Rattle.std.specs.List.{list_all};
+ghost use Rattle.std.specs.Option.{option_copied};
+ghost use Rattle.std.specs.Prelude.{IfOk, IsTrue, OnOk, option_to_list, ◌++◌, ◌≡◌};
 
 use crate::carried::Carried;
 use crate::cut::{part_at, payload_of};

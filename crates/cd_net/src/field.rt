@@ -1,8 +1,8 @@
 //! A text of a packet that is to be a field.
-ghost use Rattle.std.specs.Prelude.{◌≡◌, Bool, IfOk, IsTrue, not, true};
-ghost use Rattle.std.specs.List.{list_all};
-ghost use Rattle.cd_value.specs.Clean.{clean_byte};
 ghost use Rattle.cd_net.specs.Clean.{cleaned, is_replaced};
+ghost use Rattle.cd_value.specs.Clean.{clean_byte};
+ghost use Rattle.std.specs.List.{list_all};
+ghost use Rattle.std.specs.Prelude.{Bool, IfOk, IsTrue, not, true, ◌≡◌};
 
 use cd_value::{Memory, Text};
 use std::alloc::Global;

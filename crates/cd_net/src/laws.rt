@@ -1,8 +1,8 @@
 //! What holds of all packets.
-ghost use Rattle.std.specs.Prelude.{ℕ, List};
 ghost use Rattle.cd_net.specs.Items.{SaysOneThing};
 ghost use Rattle.cd_net.specs.Packet.{IsCutInOneWay};
 ghost use Rattle.cd_value.specs.declared.data.DataSet.{DataSet};
+ghost use Rattle.std.specs.Prelude.{List, ℕ};
 
 /// Each list of bytes, whatever it has, is cut into parts up to an end, and in one way alone.
 pub fn each_packet_is_cut_in_one_way()

@@ -1,13 +1,13 @@
 //! The value list of a values part.
-ghost use Rattle.std.specs.Option.{option_copied};
-ghost use Rattle.std.specs.Prelude.{◌≡◌, ◌==◌, ◌≤◌, ◌+◌, ◌*◌, false, is_none, length, not, IfOk, IsTrue};
-ghost use Rattle.std.specs.List.{list_all, list_any, zip};
-ghost use Rattle.cd_value.specs.Identifier.{has_bad_field, has_long_field};
 ghost use Rattle.cd_net.specs.Carried.{shown};
 ghost use Rattle.cd_net.specs.Items.{clean_texts, list_outcome};
 ghost use Rattle.cd_net.specs.Packet.{IsOfKind};
-ghost use Rattle.cd_net.specs.Payload.{code_of, codes_of, value_count, coded_value, payload_values};
+ghost use Rattle.cd_net.specs.Payload.{code_of, coded_value, codes_of, payload_values, value_count};
 ghost use Rattle.cd_net.specs.Refusals.{are_texts, are_times, first_refusal, has_time, is_code_of, is_gauge_code, list_tests, sources_of, texts_of};
+ghost use Rattle.cd_value.specs.Identifier.{has_bad_field, has_long_field};
+ghost use Rattle.std.specs.List.{list_all, list_any, zip};
+ghost use Rattle.std.specs.Option.{option_copied};
+ghost use Rattle.std.specs.Prelude.{IfOk, IsTrue, false, is_none, length, not, ◌*◌, ◌+◌, ◌==◌, ◌≡◌, ◌≤◌};
 
 use crate::carried::{Carried, CleanTexts};
 use crate::decode::Outcome;

@@ -1,10 +1,10 @@
 //! The notification of a message part.
-ghost use Rattle.std.specs.Prelude.{◌≡◌, IfOk};
-ghost use Rattle.std.specs.Option.{option_copied};
 ghost use Rattle.cd_net.specs.Carried.{shown};
 ghost use Rattle.cd_net.specs.Items.{message_of, note_of, note_outcome, severity_of};
 ghost use Rattle.cd_net.specs.Payload.{payload_text};
 ghost use Rattle.cd_net.specs.Refusals.{first_refusal, is_severity, note_tests};
+ghost use Rattle.std.specs.Option.{option_copied};
+ghost use Rattle.std.specs.Prelude.{IfOk, ◌≡◌};
 
 use crate::carried::{Carried, CleanTexts};
 use crate::decode::Outcome;

@@ -1,9 +1,9 @@
 //! What a payload says, read by `byteorder` and std.
+ghost use Rattle.cd_net.specs.Packet.{u16_at};
+ghost use Rattle.cd_net.specs.Payload.{codes_of, is_zero, numbers_of, payload_number, payload_text, units_of_seconds, value_count};
 ghost use Rattle.std.specs.List.{before_first, position};
 ghost use Rattle.std.specs.Option.{option_copied};
-ghost use Rattle.std.specs.Prelude.{◌≡◌, ◌≤◌, ◌+◌, ◌*◌, length};
-ghost use Rattle.cd_net.specs.Packet.{u16_at};
-ghost use Rattle.cd_net.specs.Payload.{codes_of, value_count, payload_number, is_zero, numbers_of, payload_text, units_of_seconds};
+ghost use Rattle.std.specs.Prelude.{length, ◌*◌, ◌+◌, ◌≡◌, ◌≤◌};
 
 use crate::numbers::SECONDS_LIMIT;
 use byteorder::{ByteOrder, NetworkEndian};

@@ -4,7 +4,8 @@
 //! - Stands on `cd_serve`, `cd_registry` and `cd_io`, and takes no handle.
 //! - Read first `specs/Gathered.antt`, then `Program.antt`.
 //! - Its one writer, `w`, keeps what it gets.
-//! - Programs with stored runs are `collectd_main`, `collectd_line` and `collectd_usage`; each only calls `start`.
+//! - Programs with stored runs are `collectd_main`, `collectd_line`, `collectd_usage` and `collectd_test`; each only
+//!   calls `start`.
 #![tactic(auto)]
 
 mod machine;

@@ -1,12 +1,16 @@
 //! What the program does over a world and a link.
+ghost use Rattle.cd_command.specs.Command.{command};
+ghost use Rattle.cd_command.specs.declared.command.Command.{Command};
 ghost use Rattle.cd_io.specs.Causes.{Rose};
+ghost use Rattle.cd_opening.specs.declared.fault.OpeningFault.{OpeningFault};
 ghost use Rattle.cd_program.specs.Gathered.{PromisesGathered, PromisesLink, end_after};
 ghost use Rattle.cd_program.specs.Program.{writer};
 ghost use Rattle.cd_serve.specs.Ends.{message_of, status_of};
-ghost use Rattle.cd_serve.specs.Promises.{IsWithin, is_lines};
-ghost use Rattle.cd_serve.specs.Shelf.{on_shelf};
+ghost use Rattle.cd_serve.specs.Promises.{IsTaken};
+ghost use Rattle.cd_serve.specs.Shelf.{on_shelf, places};
+ghost use Rattle.cd_serve.specs.Started.{AreAccepted, AreRefused, HasTried, NoneFailed, end_at};
 ghost use Rattle.std.specs.Io.KnownBytes.{Appends};
-ghost use Rattle.std.specs.Prelude.{IfNone, IfOk, IfSome, OnErr, OnOk, false, is_err, map, string_bytes, true, ◌≡◌, ◌⊎◌};
+ghost use Rattle.std.specs.Prelude.{IfNone, IfOk, IfSome, None, OnOk, Some, [], is_err, map, string_bytes, ◌≡◌, ◌⊎◌};
 
 use cd_io::{Failed, Gathering, Link, World};
 use cd_registry::{Kinds, Plug};
@@ -57,14 +61,14 @@ impl Outcome {
     }
 }
 
-/// The end of a run after which the last replies were said, or couldn't be.
+/// The end of a run after which the last replies were said, or couldn't be. A run that was refused has none.
 fn end_after(end: End, finished: Result<(), Failed>) -> End
     ensures { result ≡ end_after (is_err finished) end }
 {
     match (finished, end) {
-        (Ok(()), end) => end,
-        (Err(Failed), End::Usage) => End::Usage,
-        (Err(Failed), _) => End::LinkFault,
+        (Err(Failed), End::Done | End::InputTooLong | End::LinkFault | End::Memory) =>
+            End::LinkFault,
+        (_, end) => end,
     }
 }
 
@@ -85,8 +89,9 @@ fn shelf_of(alloc: Global, object: Box<dyn Plug + Send>) -> Result<Vec<Shelved>,
 }
 
 /// Runs the daemon by these words with one writer, `w`, called with value lists, over a link behind one that gathers
-/// replies. The last replies are said at the end; where they can't be, the end is a fault of the link. The link comes back.
-/// It answers no run where memory was lacking for the shelf; then nothing was done.
+/// replies. The last replies are said at the end; where they can't be, the end is a fault of the link. The link comes
+/// back, and the writer in its place, at any end. It answers no run where memory was lacking for the shelf; then nothing
+/// was done.
 pub fn run_gathered<W: World, L: Link>(
     alloc: Global,
     words: &[String],
@@ -95,6 +100,7 @@ pub fn run_gathered<W: World, L: Link>(
     object: Box<dyn Plug + Send>,
 ) -> (Option<Ran>, L)
     ensures promises { IfSome result.0 (λ ran. PromisesGathered
+        (map string_bytes words.now) (W.world_tells world.old).files
         (writer (⟦<Box<dyn Plug + Send> as Plug>⟧.plug_tells object))
         (on_shelf ⟦<Box<dyn Plug + Send> as Plug>⟧.plug_tells ran.plugs.items)
         ran.given
@@ -102,20 +108,34 @@ pub fn run_gathered<W: World, L: Link>(
         (L.link_tells link) (L.link_tells result.1)
         ran.end) }
     ensures link { IfSome result.0 (λ ran. PromisesLink
+        (map string_bytes words.now) (W.world_tells world.old).files
         (writer (⟦<Box<dyn Plug + Send> as Plug>⟧.plug_tells object))
         (on_shelf ⟦<Box<dyn Plug + Send> as Plug>⟧.plug_tells ran.plugs.items)
         ran.given
         (record { clock = W.world_clock_pair world.old; dice = W.world_dice_pair world.old })
         (L.link_tells link) (L.link_tells result.1)
         ran.end) }
-    ensures usage { IfSome result.0 (λ ran.
-        ran.end ≡ End.Usage → is_lines (map string_bytes words.now) ≡ false) }
-    ensures serves { IfSome result.0 (λ ran.
-        is_lines (map string_bytes words.now) ≡ false → ran.end ≡ End.Usage) }
-    ensures complete { IfSome result.0 (λ ran. is_lines (map string_bytes words.now) ≡ true
+    ensures tries { IfSome result.0 (λ ran.
+        HasTried ran.end (W.world_tells world.old) (W.world_tells world.new)) }
+    ensures usage { IfSome result.0 (λ ran. command (map string_bytes words.now) ≡ None
+        → (ran.end ≡ End.Usage) ⊎ (ran.end ≡ End.Memory)) }
+    ensures faults { IfSome result.0 (λ ran. (of : Command) → (fault : OpeningFault)
+        → command (map string_bytes words.now) ≡ Some of
+        → AreRefused of.file (W.world_tells world.old).files fault
+        → NoneFailed (W.world_tells world.old) (W.world_tells world.new)
         → (Rose (L.link_tells link).faults (L.link_tells result.1).faults → ⊥)
-        → IsWithin (L.link_tells link) (L.link_tells result.1)
+        → (ran.end ≡ end_at fault) ⊎ (ran.end ≡ End.Memory)) }
+    ensures complete { IfSome result.0 (λ ran. (of : Command)
+        → command (map string_bytes words.now) ≡ Some of
+        → AreAccepted of.file (W.world_tells world.old).files
+        → NoneFailed (W.world_tells world.old) (W.world_tells world.new)
+        → (Rose (L.link_tells link).faults (L.link_tells result.1).faults → ⊥)
+        → IsTaken of.mode (L.link_tells link) (L.link_tells result.1)
         → (ran.end ≡ End.Done) ⊎ (ran.end ≡ End.Memory)) }
+    ensures back { IfSome result.0 (λ ran.
+        places (on_shelf ⟦<Box<dyn Plug + Send> as Plug>⟧.plug_tells ran.plugs.items)
+        ≡ places (writer (⟦<Box<dyn Plug + Send> as Plug>⟧.plug_tells object))) }
+    ensures probes { IfSome result.0 (λ ran. ran.probes.items ≡ []) }
     ensures none { IfNone result.0 (result.1 ≡ link) }
 {
     let Ok(plugs) = shelf_of(alloc, object) else {

@@ -6,7 +6,8 @@ use cd_serve::{End, INPUT_LIMIT};
 use std::alloc::Global;
 use std::test::Fail;
 
-/// How a run over these bytes ends, heard in pieces of 60,000, and what the link was told, where these calls of `say` fail.
+/// How a run over these bytes ends, heard in pieces of 60,000, and what the link was told, where these calls of `say`
+/// fail.
 fn ran(alloc: Global, bytes: Vec<u8>, failing_says: &[u64]) -> Result<(End, Vec<u8>), Fail> {
     let mut words = Vec::new(alloc);
     words.push(String::from_str(alloc, "collectd")?)?;
@@ -32,7 +33,7 @@ fn replies_reach_the_link(rt: HostRuntime) -> Result<(), Fail> {
         ([0, 1], End::LinkFault, ""),
     ] {
         let (ended, output) = ran(alloc, b"LISTVAL\n".to_vec(alloc)?, failing_says.as_slice())?;
-        assert_eq!(rt; ended, end);
+        assert!(rt; ended == end);
         assert_eq!(rt; output.as_slice(), said.as_bytes());
     }
     Ok(())
@@ -52,7 +53,7 @@ fn last_replies_reach_the_link(rt: HostRuntime) -> Result<(), Fail> {
         bytes.extend_from_slice(line)?;
         bytes.push(b' ')?;
         let (ended, output) = ran(alloc, bytes, failing_says.as_slice())?;
-        assert_eq!(rt; ended, end);
+        assert!(rt; ended == end);
         assert_eq!(rt; output.as_slice(), said.as_bytes());
     }
     Ok(())

@@ -1,9 +1,9 @@
 -- Laws of lists that are offered one after another.
-use Rattle.std.proofs.Common.{◌≡◌, ℕ, ◌+◌, List, [], ◌∷◌, length, length-append, add-zero, ap, sym, ◌∙◌}
-use Rattle.cd_value.specs.declared.data.ValueList.{ValueList}
-use Rattle.cd_value.specs.declared.data.Offered.{Offered}
-use Rattle.cd_value.specs.declared.data.Offered.TheVariants.{Kept, Dropped}
 use Rattle.cd_queue.specs.Drops.{Limits, after_offer, after_offers, fate_of, fates_of, more_of}
+use Rattle.cd_value.specs.declared.data.Offered.TheVariants.{Dropped, Kept}
+use Rattle.cd_value.specs.declared.data.Offered.{Offered}
+use Rattle.cd_value.specs.declared.data.ValueList.{ValueList}
+use Rattle.std.proofs.Common.{List, [], add-zero, ap, length, length-append, sym, ℕ, ◌+◌, ◌∙◌, ◌∷◌, ◌≡◌}
 
 -- a list more waits where it was kept
 pub length-after_offer : (waiting : List ValueList) (list : ValueList) (fate : Offered) → length (after_offer waiting list fate) ≡ length waiting + more_of fate

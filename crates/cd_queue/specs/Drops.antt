@@ -1,8 +1,8 @@
 -- The write queue as contracts see it, and the rule for what it drops.
-use Rattle.std.specs.Prelude.{◌≢◌, ◌≤◌, ℕ, ◌+◌, ◌-◌, ◌%◌, Bool, ◌&&◌, ◌||◌, not, nat_eq, nat_le, nat_lt, if◌then◌else◌, List, [], ◌∷◌, ◌++◌}
-use Rattle.cd_value.specs.declared.data.ValueList.{ValueList}
+use Rattle.cd_value.specs.declared.data.Offered.TheVariants.{Dropped, Kept}
 use Rattle.cd_value.specs.declared.data.Offered.{Offered}
-use Rattle.cd_value.specs.declared.data.Offered.TheVariants.{Kept, Dropped}
+use Rattle.cd_value.specs.declared.data.ValueList.{ValueList}
+use Rattle.std.specs.Prelude.{Bool, List, [], if◌then◌else◌, nat_eq, nat_le, nat_lt, not, ℕ, ◌%◌, ◌&&◌, ◌++◌, ◌+◌, ◌-◌, ◌||◌, ◌∷◌, ◌≢◌, ◌≤◌}
 
 -- from `low` lists on some are dropped, and from `high` lists on all; a `high` of 0 is no limit
 pub record Limits : Type 0 where

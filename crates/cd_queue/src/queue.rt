@@ -1,6 +1,6 @@
 //! The write queue and its calls.
-ghost use Rattle.std.specs.Prelude.{◌≡◌, ◌≤◌, ◌<◌, ◌+◌, [], drop, length, slice_get, option_copied, IfErr, IfOk, IsOk, OnErr, OnOk};
 ghost use Rattle.cd_queue.specs.Drops.{AreInOrder, after_offer, fate_of, is_dropped};
+ghost use Rattle.std.specs.Prelude.{IfErr, IfOk, IsOk, OnErr, OnOk, [], drop, length, option_copied, slice_get, ◌+◌, ◌<◌, ◌≡◌, ◌≤◌};
 
 use cd_value::{Memory, Offered, Refused, ValueList};
 use std::alloc::Global;
@@ -18,9 +18,9 @@ pub struct WriteQueue {
 }
 
 impl Model for WriteQueue {
+    ghost use Rattle.cd_queue.specs.Drops.{AreInOrder, Queue};
     ghost use Rattle.std.specs.Prelude.{◌-◌};
     ghost use Rattle.std.specs.VecDeque.{deque_capacity, deque_len};
-    ghost use Rattle.cd_queue.specs.Drops.{AreInOrder, Queue};
 
     ghost Value = { Queue };
 

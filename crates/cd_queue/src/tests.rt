@@ -1,6 +1,6 @@
 //! Cases worked by hand from the rule, and the loop of a caller who offers many lists.
-ghost use Rattle.std.specs.Prelude.{◌≡◌, ◌≤◌, length, IfOk};
 ghost use Rattle.cd_queue.specs.Drops.{after_offer, after_offers, fate_of, fates_of};
+ghost use Rattle.std.specs.Prelude.{IfOk, length, ◌≡◌, ◌≤◌};
 
 use crate::WriteQueue;
 use cd_value::{Identifier, Memory, Offered, Sequence, ValueList};

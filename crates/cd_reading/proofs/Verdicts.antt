@@ -1,8 +1,8 @@
 -- Reading one after the other gives all values, or the first fault.
-use Rattle.std.proofs.Common.{◌≡◌, ℕ, ◌+◌, ◌<◌, ◌≤◌, List, [], ◌∷◌, ◌++◌, take, drop, length, get_or, Result, Ok, Err, Option, Some, None, refl, sym, ap, ◌∙◌, append_assoc, add-one, drop-cons}
-use Rattle.std.proofs.lemmas.List.{append-nil, take_more, drop_all}
-use Rattle.cd_reading.specs.First.{◌>>=◌, all_or_first, each_after}
+use Rattle.cd_reading.specs.First.{all_or_first, each_after, ◌>>=◌}
 use Rattle.cd_reading.specs.Gives.{Refuses}
+use Rattle.std.proofs.Common.{Err, List, None, Ok, Option, Result, Some, [], add-one, ap, append_assoc, drop, drop-cons, get_or, length, refl, sym, take, ℕ, ◌++◌, ◌+◌, ◌<◌, ◌∙◌, ◌∷◌, ◌≡◌, ◌≤◌}
+use Rattle.std.proofs.lemmas.List.{append-nil, drop_all, take_more}
 
 -- what was read before, and what is still read
 abbrev pub with_front : {A F : Type 0} → List A → Result (List A) F → Result (List A) F

@@ -1,5 +1,5 @@
 -- The first fault in an order, and verdicts that depend on what came before.
-use Rattle.std.specs.Prelude.{List, [], ◌∷◌, ◌++◌, Result, Ok, Err, Bool, if◌then◌else◌}
+use Rattle.std.specs.Prelude.{Bool, Err, List, Ok, Result, [], if◌then◌else◌, ◌++◌, ◌∷◌}
 
 -- what f reads of a value, unless there was a fault
 infixl 10 ◌>>=◌

@@ -1,5 +1,5 @@
 -- What a reader gives, unless memory ran out.
-use Rattle.std.specs.Prelude.{◌≡◌, Result, Ok, Err, Option, Some, None}
+use Rattle.std.specs.Prelude.{Err, None, Ok, Option, Result, Some, ◌≡◌}
 
 -- the fault is the one that was read; want of memory, which is none, says nothing
 abbrev pub Refuses : {Y F : Type 0} → Option F → Result Y F → Type 0

@@ -1,9 +1,9 @@
 -- Facts of the row of a number, for callers.
-use Rattle.std.proofs.Common.{◌≡◌, ◌<◌, ℕ, suc, zero, ◌+◌, List, [], ◌∷◌, ◌++◌, Bool, true, false, ◌&&◌, cond, length, get_or, slice_get, IfSome, IsSomeAnd, Option, None, Some, refl, ap, ◌∙◌, arith}
-use Rattle.std.specs.List.{All, filter, position}
-use Rattle.std.proofs.lemmas.List.Quantifiers.{position-Some}
-use Rattle.cd_registry.specs.Rows.{Row, At, IsLive, IsPlugOut, IsReady, after_take, has_kinds, is_live_as, listening, live_number_with, with_row}
 use Rattle.cd_registry.proofs.Places.{numbers_from, numbers_from-cons}
+use Rattle.cd_registry.specs.Rows.{At, IsLive, IsPlugOut, IsReady, Row, after_take, has_kinds, is_live_as, listening, live_number_with, with_row}
+use Rattle.std.proofs.Common.{Bool, IfSome, IsSomeAnd, List, None, Option, Some, [], ap, arith, cond, false, get_or, length, refl, slice_get, suc, true, zero, ℕ, ◌&&◌, ◌++◌, ◌+◌, ◌<◌, ◌∙◌, ◌∷◌, ◌≡◌}
+use Rattle.std.proofs.lemmas.List.Quantifiers.{position-Some}
+use Rattle.std.specs.List.{All, filter, position}
 
 -- a fact of a row leads to another
 pub at_map : (rows : List Row) (i : ℕ) (P Q : Row → Type 0) → ((row : Row) → P row → Q row) → At rows i P → At rows i Q

@@ -1,9 +1,9 @@
 -- A change of one slot, as contracts see it.
-use Rattle.std.proofs.Common.{◌≡◌, ◌<◌, ℕ, suc, zero, List, [], ◌∷◌, map, set, get_or, length, Option, Some, None, Result, Ok, Err, OnOk, OnErr, IfOk, slice_get, IsSomeAnd, sym, refl, ap, ◌∙◌, subst}
+use Rattle.cd_registry.specs.Rows.{At, Row, with_row}
+use Rattle.std.proofs.Common.{Err, IfOk, IsSomeAnd, List, None, Ok, OnErr, OnOk, Option, Result, Some, [], ap, get_or, length, map, refl, set, slice_get, subst, suc, sym, zero, ℕ, ◌<◌, ◌∙◌, ◌∷◌, ◌≡◌}
 use Rattle.std.proofs.Math.Seq.{map-set_same}
 use Rattle.std.proofs.lemmas.List.{length-map}
 use Rattle.std.proofs.lemmas.Option.{slice_get-map, slice_get_read, slice_get_within}
-use Rattle.cd_registry.specs.Rows.{Row, At, with_row}
 
 -- where there is a row, its number is one of the list's
 pub at_within : (rows : List Row) (i : ℕ) (P : Row → Type 0) → At rows i P → i < length rows

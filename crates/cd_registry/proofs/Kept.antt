@@ -1,15 +1,15 @@
 -- What a change of one slot leaves: which slots are ready, and their room.
-use Rattle.std.proofs.Common.{◌≡◌, ◌≢◌, ◌<◌, ◌≤◌, ◌⊎◌, inl, inr, ℕ, ◌+◌, List, Bool, true, false, cond, nat_eq, map, set, get_or, length, sym, refl, ap, ◌∙◌, arith, eq-eqb}
-use Rattle.std.proofs.Math.Seq.{map-set_same}
-use Rattle.std.proofs.lemmas.Bool.{cases_eq, ne_eqb}
-use Rattle.std.proofs.lemmas.List.{map-set, length-map, get_or-set_same, get_or-set_other, get_or-map}
-use Rattle.cd_registry.specs.declared.plug.PlugTells.{PlugTells}
-use Rattle.cd_registry.specs.declared.probe.ProbeTells.{ProbeTells}
-use Rattle.cd_registry.specs.declared.place.Place.{Place}
-use Rattle.cd_registry.specs.declared.place.Place.TheVariants.{PlugHome, ProbeHome, PlugOut, ProbeOut, Retired}
-use Rattle.cd_registry.specs.declared.slot.Slot.{Slot}
 use Rattle.cd_registry.specs.Rows.{Row, is_plug_home, is_ready}
 use Rattle.cd_registry.specs.Slots.{is_probe_home, is_slot_ready, place_tells, row_of, slot_spare}
+use Rattle.cd_registry.specs.declared.place.Place.TheVariants.{PlugHome, PlugOut, ProbeHome, ProbeOut, Retired}
+use Rattle.cd_registry.specs.declared.place.Place.{Place}
+use Rattle.cd_registry.specs.declared.plug.PlugTells.{PlugTells}
+use Rattle.cd_registry.specs.declared.probe.ProbeTells.{ProbeTells}
+use Rattle.cd_registry.specs.declared.slot.Slot.{Slot}
+use Rattle.std.proofs.Common.{Bool, List, ap, arith, cond, eq-eqb, false, get_or, inl, inr, length, map, nat_eq, refl, set, sym, true, ℕ, ◌+◌, ◌<◌, ◌∙◌, ◌≡◌, ◌≢◌, ◌≤◌, ◌⊎◌}
+use Rattle.std.proofs.Math.Seq.{map-set_same}
+use Rattle.std.proofs.lemmas.Bool.{cases_eq, ne_eqb}
+use Rattle.std.proofs.lemmas.List.{get_or-map, get_or-set_other, get_or-set_same, length-map, map-set}
 
 module _ {P Q : Type 0} (plug : P → PlugTells) (probe : Q → ProbeTells) where
   pub plug_home_same : (place : Place P Q) → is_plug_home (place_tells plug probe place) ≡ is_plug_home place

@@ -1,11 +1,11 @@
 -- Rows that are shown of elements which have their numbers: what is asked of the rows, by the elements.
-use Rattle.std.proofs.Common.{◌≡◌, ◌<◌, ◌≤◌, ℕ, suc, zero, ◌+◌, List, [], ◌∷◌, ◌++◌, Bool, true, false, cond, nat_eq, map, length, Option, Some, None, refl, ap, sym, ◌∙◌, arith, eq-eqb, rules}
-use Rattle.std.specs.List.{enumerate_from, filter, find, position, position_from}
-use Rattle.std.specs.Option.{option_map}
+use Rattle.cd_registry.proofs.Places.{numbers_from, numbers_from-cons}
+use Rattle.cd_registry.specs.Rows.{Row, numbers_of, with_row}
+use Rattle.std.proofs.Common.{Bool, List, None, Option, Some, [], ap, arith, cond, eq-eqb, false, length, map, nat_eq, refl, rules, suc, sym, true, zero, ℕ, ◌++◌, ◌+◌, ◌<◌, ◌∙◌, ◌∷◌, ◌≡◌, ◌≤◌}
 use Rattle.std.proofs.lemmas.Bool.{ne_eqb}
 use Rattle.std.proofs.lemmas.Iterator.Adapters.{position_from-zero}
-use Rattle.cd_registry.specs.Rows.{Row, numbers_of, with_row}
-use Rattle.cd_registry.proofs.Places.{numbers_from, numbers_from-cons}
+use Rattle.std.specs.List.{enumerate_from, filter, find, position, position_from}
+use Rattle.std.specs.Option.{option_map}
 
 -- the elements have the numbers from n on, in order
 abbrev pub AreNumbered : {A : Type 0} → (A → ℕ) → ℕ → List A → Type 0

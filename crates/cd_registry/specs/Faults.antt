@@ -1,16 +1,16 @@
 -- What the registry refuses, by its rows.
-use Rattle.std.specs.Prelude.{ℕ, Bool, nat_eq, nat_le, if◌then◌else◌, List, [], ◌∷◌, length, codes, Option, None, Some, Result, Ok, Err}
-use Rattle.std.specs.List.{list_any}
-use Rattle.std.specs.Str.{bytes_eq}
-use Rattle.cd_value.specs.declared.memory.Refused.{Refused}
-use Rattle.cd_registry.specs.declared.faults.TheConstants.{LIVE_LIMIT}
-use Rattle.cd_registry.specs.declared.faults.AddFault.{AddFault}
-use Rattle.cd_registry.specs.declared.faults.AddFault.TheVariants as add
-use Rattle.cd_registry.specs.declared.faults.RetireFault.{RetireFault}
-use Rattle.cd_registry.specs.declared.faults.RetireFault.TheVariants as retire
-use Rattle.cd_registry.specs.declared.place.Place.{Place}
-use Rattle.cd_registry.specs.declared.place.Place.TheVariants.{PlugHome, ProbeHome, PlugOut, ProbeOut, Retired}
 use Rattle.cd_registry.specs.Rows.{Row, live_count, live_number}
+use Rattle.cd_registry.specs.declared.faults.AddFault.TheVariants as add
+use Rattle.cd_registry.specs.declared.faults.AddFault.{AddFault}
+use Rattle.cd_registry.specs.declared.faults.RetireFault.TheVariants as retire
+use Rattle.cd_registry.specs.declared.faults.RetireFault.{RetireFault}
+use Rattle.cd_registry.specs.declared.faults.TheConstants.{LIVE_LIMIT}
+use Rattle.cd_registry.specs.declared.place.Place.TheVariants.{PlugHome, PlugOut, ProbeHome, ProbeOut, Retired}
+use Rattle.cd_registry.specs.declared.place.Place.{Place}
+use Rattle.cd_value.specs.declared.memory.Refused.{Refused}
+use Rattle.std.specs.List.{list_any}
+use Rattle.std.specs.Prelude.{Bool, Err, List, None, Ok, Option, Result, Some, [], codes, if◌then◌else◌, length, nat_eq, nat_le, ℕ, ◌∷◌}
+use Rattle.std.specs.Str.{bytes_eq}
 
 -- the names of the daemon's own writers and listeners
 abbrev pub is_reserved : List ℕ → Bool

@@ -1,10 +1,10 @@
 -- What contracts see of a registry: its rows, and for how many more calls of each registration there is room.
-use Rattle.std.specs.Prelude.{ℕ, ◌+◌, ◌≤◌, ◌≢◌, nat_eq, if◌then◌else◌, List, map, slice_index}
+use Rattle.cd_registry.specs.Rows.{Row}
+use Rattle.cd_registry.specs.Slots.{row_of, slot_spare}
 use Rattle.cd_registry.specs.declared.plug.PlugTells.{PlugTells}
 use Rattle.cd_registry.specs.declared.probe.ProbeTells.{ProbeTells}
 use Rattle.cd_registry.specs.declared.registry.Registry.{Registry}
-use Rattle.cd_registry.specs.Rows.{Row}
-use Rattle.cd_registry.specs.Slots.{row_of, slot_spare}
+use Rattle.std.specs.Prelude.{List, if◌then◌else◌, map, nat_eq, slice_index, ℕ, ◌+◌, ◌≢◌, ◌≤◌}
 
 -- its rows, by what the objects tell
 abbrev pub rows : {P Q : Type 0} → (P → PlugTells) → (Q → ProbeTells) → Registry P Q → List Row

@@ -1,14 +1,14 @@
 -- The registry as contracts see it: a row for each registration, in order of number.
-use Rattle.std.specs.Prelude.{◌≡◌, ℕ, suc, zero, Bool, true, false, ◌&&◌, not, nat_eq, ◌==◌, List, [], ◌∷◌, ◌++◌, length, map, filter, position, drop, slice_get, bit_and, IsSomeAnd, Option, Some}
-use Rattle.std.specs.List.{enumerate_from}
-use Rattle.std.specs.Str.{bytes_eq}
 use Rattle.cd_registry.specs.declared.calls.Call.{Call}
+use Rattle.cd_registry.specs.declared.member.MemberOf.TheVariants as member
+use Rattle.cd_registry.specs.declared.member.MemberOf.{MemberOf}
+use Rattle.cd_registry.specs.declared.place.Place.TheVariants.{PlugHome, PlugOut, ProbeHome, ProbeOut, Retired}
+use Rattle.cd_registry.specs.declared.place.Place.{Place}
 use Rattle.cd_registry.specs.declared.plug.PlugTells.{PlugTells}
 use Rattle.cd_registry.specs.declared.probe.ProbeTells.{ProbeTells}
-use Rattle.cd_registry.specs.declared.member.MemberOf.{MemberOf}
-use Rattle.cd_registry.specs.declared.member.MemberOf.TheVariants as member
-use Rattle.cd_registry.specs.declared.place.Place.{Place}
-use Rattle.cd_registry.specs.declared.place.Place.TheVariants.{PlugHome, ProbeHome, PlugOut, ProbeOut, Retired}
+use Rattle.std.specs.List.{enumerate_from}
+use Rattle.std.specs.Prelude.{Bool, IsSomeAnd, List, Option, Some, [], bit_and, drop, false, filter, length, map, nat_eq, not, position, slice_get, suc, true, zero, ℕ, ◌&&◌, ◌++◌, ◌==◌, ◌∷◌, ◌≡◌}
+use Rattle.std.specs.Str.{bytes_eq}
 
 -- A registration: its name and its kinds of callbacks as bits, whether it is live, where its object is and what that
 -- tells at home, and the calls that wait for it, the oldest first.

@@ -1,15 +1,15 @@
 -- What contracts see of the registry's own data. `plug` and `probe` are what an object of either kind tells.
-use Rattle.std.specs.Prelude.{ℕ, ◌-◌, ◌&&◌, ◌==◌, not, nat_eq, bit_and, Bool, true, false, List, length}
-use Rattle.std.specs.Str.{bytes_eq}
-use Rattle.std.specs.VecDeque.{deque_capacity, deque_len}
-use Rattle.cd_registry.specs.declared.member.MemberOf.{MemberOf}
+use Rattle.cd_registry.specs.Rows.{Row, is_plug_home}
 use Rattle.cd_registry.specs.declared.member.MemberOf.TheVariants as member
+use Rattle.cd_registry.specs.declared.member.MemberOf.{MemberOf}
+use Rattle.cd_registry.specs.declared.place.Place.TheVariants.{PlugHome, PlugOut, ProbeHome, ProbeOut, Retired}
 use Rattle.cd_registry.specs.declared.place.Place.{Place}
-use Rattle.cd_registry.specs.declared.place.Place.TheVariants.{PlugHome, ProbeHome, PlugOut, ProbeOut, Retired}
 use Rattle.cd_registry.specs.declared.plug.PlugTells.{PlugTells}
 use Rattle.cd_registry.specs.declared.probe.ProbeTells.{ProbeTells}
 use Rattle.cd_registry.specs.declared.slot.Slot.{Slot}
-use Rattle.cd_registry.specs.Rows.{Row, is_plug_home}
+use Rattle.std.specs.Prelude.{Bool, List, bit_and, false, length, nat_eq, not, true, ℕ, ◌&&◌, ◌-◌, ◌==◌}
+use Rattle.std.specs.Str.{bytes_eq}
+use Rattle.std.specs.VecDeque.{deque_capacity, deque_len}
 
 module _ {P Q : Type 0} (plug : P → PlugTells) (probe : Q → ProbeTells) where
   -- what a member tells

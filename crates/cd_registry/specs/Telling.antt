@@ -1,7 +1,7 @@
 -- The answers that the plug-in that keeps its calls has still to give.
-use Rattle.std.specs.Prelude.{List, drop}
 use Rattle.cd_registry.specs.declared.calls.Answer.{Answer}
 use Rattle.cd_registry.specs.declared.telling.Telling.{Telling}
+use Rattle.std.specs.Prelude.{List, drop}
 
 -- those of its list that it hasn't given, in order
 abbrev pub answers_left : Telling → List Answer

@@ -1,14 +1,14 @@
 -- What plug-ins tell of the calls that they got, and of the readings that they gave.
-use Rattle.std.specs.Prelude.{◌≡◌, ◌≤◌, ◌+◌, ◌-◌, ◌^◌, min, ℕ, List, [], ◌∷◌, ◌++◌, Option, None, Some}
-use Rattle.cd_registry.specs.declared.calls.Call.{Call}
-use Rattle.cd_registry.specs.declared.calls.Answer.{Answer}
 use Rattle.cd_registry.specs.declared.calls.Answer.TheVariants as answer
+use Rattle.cd_registry.specs.declared.calls.Answer.{Answer}
 use Rattle.cd_registry.specs.declared.calls.AnsweredCall.{AnsweredCall}
+use Rattle.cd_registry.specs.declared.calls.Call.{Call}
 use Rattle.cd_registry.specs.declared.plug.PlugTells.{PlugTells}
-use Rattle.cd_registry.specs.declared.probe.Reading.{Reading}
-use Rattle.cd_registry.specs.declared.probe.Reading.TheVariants as reading
-use Rattle.cd_registry.specs.declared.probe.TimedReading.{TimedReading}
 use Rattle.cd_registry.specs.declared.probe.ProbeTells.{ProbeTells}
+use Rattle.cd_registry.specs.declared.probe.Reading.TheVariants as reading
+use Rattle.cd_registry.specs.declared.probe.Reading.{Reading}
+use Rattle.cd_registry.specs.declared.probe.TimedReading.{TimedReading}
+use Rattle.std.specs.Prelude.{List, None, Option, Some, [], min, ℕ, ◌++◌, ◌+◌, ◌-◌, ◌^◌, ◌∷◌, ◌≡◌, ◌≤◌}
 
 -- the calls told after one more: it comes behind the others, unless memory was lacking, after which none are told
 abbrev pub calls_after : Call → Answer → Option (List AnsweredCall) → Option (List AnsweredCall)

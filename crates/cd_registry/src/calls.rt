@@ -1,5 +1,5 @@
 //! Calls of plug-ins and their answers.
-ghost use Rattle.std.specs.Prelude.{◌≡◌, IfOk};
+ghost use Rattle.std.specs.Prelude.{IfOk, ◌≡◌};
 
 use cd_value::{Memory, Notification, Text, TryCopy, ValueList};
 use std::alloc::Global;

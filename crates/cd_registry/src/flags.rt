@@ -1,5 +1,5 @@
 //! Flags in order, of which the first that is up is found at once.
-ghost use Rattle.std.specs.Prelude.{◌≡◌, ◌<◌, ◌+◌, ◌≤◌, [], ◌∷◌, ◌++◌, true, false, length, slice_set, position, OnOk, OnErr};
+ghost use Rattle.std.specs.Prelude.{OnErr, OnOk, [], false, length, position, slice_set, true, ◌++◌, ◌+◌, ◌<◌, ◌∷◌, ◌≡◌, ◌≤◌};
 
 use cd_value::Memory;
 use memchr::memchr;
@@ -13,9 +13,9 @@ pub struct Flags {
 }
 
 impl Model for Flags {
-    ghost use Rattle.std.specs.Prelude.{List, Bool, ◌==◌, map, ◌-◌, ℕ};
-    ghost use Rattle.std.specs.Vec.{vec_capacity, vec_len};
     ghost use Rattle.cd_registry.specs.Flags.{FlagList};
+    ghost use Rattle.std.specs.Prelude.{Bool, List, map, ℕ, ◌-◌, ◌==◌};
+    ghost use Rattle.std.specs.Vec.{vec_capacity, vec_len};
 
     ghost Value = { FlagList };
 

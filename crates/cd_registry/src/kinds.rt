@@ -1,5 +1,5 @@
 //! The set of the kinds of callbacks.
-ghost use Rattle.std.specs.Prelude.{⊤, ◌≡◌, ◌==◌, [], ◌∷◌, codes, bit_and};
+ghost use Rattle.std.specs.Prelude.{[], bit_and, codes, ⊤, ◌==◌, ◌∷◌, ◌≡◌};
 
 use bitflags::{Flag, Flags};
 
@@ -55,7 +55,8 @@ impl Flags for Kinds {
 
     ghost exact = { ⊤ };
 
-    ghost table = { (codes "WRITE", 1) ∷ (codes "FLUSH", 2) ∷ (codes "MISSING", 4) ∷ (codes "NOTIFY", 8) ∷ (codes "CONFIGURE", 16) ∷ [] };
+    ghost table = { (codes "WRITE", 1) ∷ (codes "FLUSH", 2) ∷ (codes "MISSING", 4)
+        ∷ (codes "NOTIFY", 8) ∷ (codes "CONFIGURE", 16) ∷ [] };
 
     ghost set_of = { λ kinds. kinds.0 };
 

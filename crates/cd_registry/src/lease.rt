@@ -1,6 +1,6 @@
 //! A plug-in out for a call.
-ghost use Rattle.std.specs.Prelude.{◌≡◌};
 ghost use Rattle.cd_registry.specs.Told.{told_after};
+ghost use Rattle.std.specs.Prelude.{◌≡◌};
 
 use crate::{Answer, Call, Plug};
 use std::marker::Send;

@@ -15,8 +15,8 @@ pub struct PlugTells {
 
 /// A plug-in that the daemon calls.
 pub trait Plug: Send + Drop {
-    ghost use Rattle.cd_registry.specs.declared.plug.PlugTells.{PlugTells};
     ghost use Rattle.cd_registry.specs.Told.{told_after};
+    ghost use Rattle.cd_registry.specs.declared.plug.PlugTells.{PlugTells};
 
     ghost plug_tells: { Self → PlugTells };
 

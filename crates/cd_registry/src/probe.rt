@@ -32,8 +32,8 @@ pub struct ProbeTells {
 
 /// A plug-in that the daemon reads.
 pub trait Probe: Send + Drop {
-    ghost use Rattle.cd_registry.specs.declared.probe.ProbeTells.{ProbeTells};
     ghost use Rattle.cd_registry.specs.Told.{Reads};
+    ghost use Rattle.cd_registry.specs.declared.probe.ProbeTells.{ProbeTells};
 
     ghost probe_tells: { Self → ProbeTells };
 

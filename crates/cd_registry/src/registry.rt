@@ -1,13 +1,13 @@
 //! The registry and its calls.
-ghost use Rattle.std.specs.Prelude.{◌≡◌, ◌≢◌, ◌≤◌, ◌<◌, ◌&&◌, [], ◌∷◌, ◌++◌, length, map, position, nat_le, slice_get, filter, vec_len, if◌then◌else◌, IfErr, IfOk, IfSome, IsOk, OnErr, OnOk};
+ghost use Rattle.cd_registry.specs.Faults.{add_fault, fault_of, is_reserved, retire_fault};
+ghost use Rattle.cd_registry.specs.Rows.{At, IsHomeFor, IsLive, IsPlugOut, IsProbeHome, IsProbeOut, IsReady, after_back, after_close, after_give, after_lend, after_post, after_retire, after_take, home_of, is_ready, listening, live_count, live_number, live_number_with, new_row, numbers_of, with_row};
+ghost use Rattle.cd_registry.specs.Slots.{has_slot_kinds, is_slot_live_as, is_slot_ready, member_tells};
 ghost use Rattle.std.specs.List.{All};
 ghost use Rattle.std.specs.Option.{ok_or};
+ghost use Rattle.std.specs.Prelude.{IfErr, IfOk, IfSome, IsOk, OnErr, OnOk, [], filter, if◌then◌else◌, length, map, nat_le, position, slice_get, vec_len, ◌&&◌, ◌++◌, ◌<◌, ◌∷◌, ◌≡◌, ◌≢◌, ◌≤◌};
 ghost use Rattle.std.specs.Result.{result_err};
 ghost use Rattle.std.specs.Vec.{vec_capacity};
 ghost use Rattle.std.specs.VecDeque.{deque_capacity};
-ghost use Rattle.cd_registry.specs.Faults.{add_fault, fault_of, is_reserved, retire_fault};
-ghost use Rattle.cd_registry.specs.Rows.{after_back, after_close, after_give, after_lend, after_post, after_retire, after_take, home_of, is_ready, listening, live_count, live_number, numbers_of, live_number_with, new_row, with_row, At, IsHomeFor, IsLive, IsPlugOut, IsProbeHome, IsProbeOut, IsReady};
-ghost use Rattle.cd_registry.specs.Slots.{has_slot_kinds, is_slot_live_as, is_slot_ready, member_tells};
 
 use crate::faults::{AddFault, LIVE_LIMIT, NotRegistered, RetireFault};
 use crate::flags::Flags;
@@ -30,8 +30,8 @@ pub struct Registry<P, Q> {
 }
 
 impl<P: Plug, Q: Probe> Registry<P, Q> {
+    ghost use Rattle.cd_registry.specs.Registry.{KeepsOtherRoom, KeepsRoom, UsesRoom, rows, spare_of};
     ghost use Rattle.cd_registry.specs.declared.place.Place.{Place};
-    ghost use Rattle.cd_registry.specs.Registry.{rows, spare_of, KeepsOtherRoom, KeepsRoom, UsesRoom};
 
     /// No registration.
     pub fn new(alloc: Global) -> Self
@@ -214,7 +214,8 @@ impl<P: Plug, Q: Probe> Registry<P, Q> {
     pub fn retire(&mut self, reg: u64) -> Result<MemberOf<P, Q>, RetireFault>
         ensures fault { result_err result ≡
             retire_fault (slice_get (rows P.plug_tells Q.probe_tells self.old) reg) }
-        ensures member { IfOk result (λ member. At (rows P.plug_tells Q.probe_tells self.old) reg (λ row.
+        ensures member { IfOk result (λ member.
+            At (rows P.plug_tells Q.probe_tells self.old) reg (λ row.
             row.place ≡ home_of (member_tells P.plug_tells Q.probe_tells member))) }
         ensures ok { OnOk result (rows P.plug_tells Q.probe_tells self.new ≡
             with_row reg after_retire (rows P.plug_tells Q.probe_tells self.old)) }

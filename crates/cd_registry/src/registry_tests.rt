@@ -1,7 +1,7 @@
 //! The registry as the daemon uses it: cases worked by hand, at plain plug-ins and at boxes.
-ghost use Rattle.std.specs.Prelude.{◌≡◌, [], IfSome};
 ghost use Rattle.cd_registry.specs.Registry.{rows};
 ghost use Rattle.cd_registry.specs.Rows.{At, IsPlugOut, IsProbeOut};
+ghost use Rattle.std.specs.Prelude.{IfSome, [], ◌≡◌};
 
 use crate::{
     AddFault, Answer, Call, Kinds, LeaseOf, MemberOf, NotRegistered, Plug, Probe, Reading,

@@ -1,10 +1,10 @@
 //! The registry's slot of one registration.
-ghost use Rattle.std.specs.Prelude.{◌≡◌, ◌≤◌, ◌<◌, ◌+◌, ◌==◌, ◌&&◌, ◌||◌, not, nat_eq, true, [], ◌∷◌, ◌++◌, is_ok, is_some, length, slice_get, bit_and, if◌then◌else◌, IfErr, IfOk, IfSome, IsOk, IsNone, MatchResult, None, Some, OnErr, OnOk};
+ghost use Rattle.cd_registry.specs.Faults.{row_fault};
+ghost use Rattle.cd_registry.specs.Rows.{IsHomeFor, after_back, after_close, after_give, after_lend, after_post, after_retire, after_take, home_of, new_row};
+ghost use Rattle.cd_registry.specs.Slots.{has_slot_kinds, is_probe_home, is_slot_live_as, is_slot_ready, member_tells, row_of, slot_spare};
+ghost use Rattle.std.specs.Prelude.{IfErr, IfOk, IfSome, IsNone, IsOk, MatchResult, None, OnErr, OnOk, Some, [], bit_and, if◌then◌else◌, is_ok, is_some, length, nat_eq, not, slice_get, true, ◌&&◌, ◌++◌, ◌+◌, ◌<◌, ◌==◌, ◌||◌, ◌∷◌, ◌≡◌, ◌≤◌};
 ghost use Rattle.std.specs.Result.{result_err};
 ghost use Rattle.std.specs.VecDeque.{deque_capacity, deque_len};
-ghost use Rattle.cd_registry.specs.Faults.{row_fault};
-ghost use Rattle.cd_registry.specs.Rows.{after_back, after_close, after_give, after_lend, after_post, after_retire, after_take, home_of, new_row, IsHomeFor};
-ghost use Rattle.cd_registry.specs.Slots.{has_slot_kinds, is_probe_home, is_slot_live_as, is_slot_ready, member_tells, row_of, slot_spare};
 
 use crate::faults::RetireFault;
 use crate::member::MemberOf;

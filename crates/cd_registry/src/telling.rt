@@ -1,7 +1,7 @@
 //! A plug-in that keeps what it got.
-ghost use Rattle.std.specs.Prelude.{◌≡◌, ◌≢◌, ◌⊎◌, ◌++◌, ◌+◌, [], ◌∷◌, Some, None, OnOk, drop, option_copied, slice_get};
-ghost use Rattle.cd_registry.specs.Told.{calls_after, told_after};
 ghost use Rattle.cd_registry.specs.Answering.{answer_at};
+ghost use Rattle.cd_registry.specs.Told.{calls_after, told_after};
+ghost use Rattle.std.specs.Prelude.{None, OnOk, Some, [], drop, option_copied, slice_get, ◌++◌, ◌+◌, ◌∷◌, ◌≡◌, ◌≢◌, ◌⊎◌};
 
 use crate::{Answer, AnsweredCall, Call, Plug};
 use cd_value::{Memory, Sequence, TryCopy};
@@ -23,7 +23,8 @@ impl Telling {
 
     /// A plug-in that has got no call, and that will give these answers.
     pub fn new(alloc: Global, mark: u64, answers: Vec<Answer>) -> Self
-        ensures tells { ⟦<Telling as Plug>⟧.plug_tells result ≡ record { mark = mark; calls = Some [] } }
+        ensures tells { ⟦<Telling as Plug>⟧.plug_tells result ≡
+            record { mark = mark; calls = Some [] } }
         ensures answers { answers_left result ≡ answers.items }
     {
         Telling {
@@ -63,7 +64,8 @@ fn put(
     call: &Call,
     answer: Answer,
 ) -> Result<(), Memory>
-    ensures { OnOk result (calls.new ≡ calls.old ++ record { call = call.now; answer = answer } ∷ []) }
+    ensures { OnOk result (calls.new ≡
+        calls.old ++ record { call = call.now; answer = answer } ∷ []) }
 {
     let call = call.copy(alloc)?;
     calls.push(AnsweredCall { call, answer })
@@ -100,7 +102,8 @@ impl Plug for Telling {
     ghost plug_tells = { λ t. record { mark = t.mark; calls = t.calls } };
 
     fn enter(&mut self, call: &Call) -> Answer
-        ensures tells { ⟦<Telling as Plug>⟧.plug_tells self.new ≡ told_after call.now result (⟦<Telling as Plug>⟧.plug_tells self.old) }
+        ensures tells { ⟦<Telling as Plug>⟧.plug_tells self.new ≡
+            told_after call.now result (⟦<Telling as Plug>⟧.plug_tells self.old) }
         ensures answer { (result ≡ answer_at (answers_left self.old) 0) ⊎ (result ≡ Answer.Memory) }
         ensures order { answers_left self.new ≡ drop 1 (answers_left self.old) }
     {

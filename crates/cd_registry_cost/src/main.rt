@@ -1,6 +1,6 @@
-//! What a take costs. With three words, REGISTRATIONS, CALLS and ROUNDS, it registers that many writers, lets that many
-//! calls wait for the last of them, and prints the time of a take with its way home, and of finding the writers. Without
-//! words it prints nothing.
+//! What a take costs. With three words, REGISTRATIONS, CALLS and ROUNDS, it registers that many writers, lets that
+//! many calls wait for the last of them, and prints the time of a take with its way home, and of finding the writers.
+//! Without words it prints nothing.
 #![tactic(auto)]
 
 ghost use Rattle.std.specs.Prelude.{◌≡◌};

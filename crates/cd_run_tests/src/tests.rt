@@ -108,7 +108,7 @@ fn one_line_reaches_the_plug_in(rt: HostRuntime) -> Result<(), Fail> {
     let alloc = rt.alloc();
     let line = b"PUTVAL h/p/derive interval=10 1000:5\n";
     let (ran, output) = ran(alloc, "--lines", line.as_slice(), LinkPlan::new(alloc))?;
-    assert_eq!(rt; ran.end, End::Done);
+    assert!(rt; ran.end == End::Done);
     assert_eq!(rt; output.as_slice(), b"0 Success\n".as_slice());
     assert_eq!(rt; calls_of(&ran), Some(1));
     assert_eq!(rt;
@@ -170,7 +170,7 @@ fn lines_are_answered(rt: HostRuntime) -> Result<(), Fail> {
         let mut plan = LinkPlan::new(alloc);
         plan.piece_limit = 1;
         let (ran, output) = ran(alloc, "--lines", lines.as_bytes(), plan)?;
-        assert_eq!(rt; ran.end, End::Done);
+        assert!(rt; ran.end == End::Done);
         assert_eq!(rt; output.as_slice(), written.as_bytes());
     }
     Ok(())
@@ -224,18 +224,18 @@ fn links_fail(rt: HostRuntime) -> Result<(), Fail> {
     let mut says = LinkPlan::new(alloc);
     says.failing_says.push(1)?;
     let (second, output) = ran(alloc, "--lines", lines.as_slice(), says)?;
-    assert_eq!(rt; second.end, End::LinkFault);
+    assert!(rt; second.end == End::LinkFault);
     assert_eq!(rt; output.as_slice(), b"0 Success\n".as_slice());
     assert!(rt; writes(&second, [(1000, 5), (1010, 5)].as_slice()));
     let mut hears = LinkPlan::new(alloc);
     hears.failing_hears.push(0)?;
     let (first, output) = ran(alloc, "--lines", lines.as_slice(), hears)?;
-    assert_eq!(rt; first.end, End::LinkFault);
+    assert!(rt; first.end == End::LinkFault);
     assert_eq!(rt; output.len(), 0);
     let mut quiet = LinkPlan::new(alloc);
     quiet.quiet_hears.push(0)?;
     let (early, output) = ran(alloc, "--lines", lines.as_slice(), quiet)?;
-    assert_eq!(rt; early.end, End::Done);
+    assert!(rt; early.end == End::Done);
     assert_eq!(rt; output.len(), 0);
     Ok(())
 }
@@ -255,7 +255,7 @@ fn long_lines_are_refused(rt: HostRuntime) -> Result<(), Fail> {
     lines.extend_from_slice(padded(alloc, b"LISTVAL".as_slice(), 4097)?.as_slice())?;
     lines.extend_from_slice(b"LISTVAL\n".as_slice())?;
     let (ran, output) = ran(alloc, "--lines", lines.as_slice(), LinkPlan::new(alloc))?;
-    assert_eq!(rt; ran.end, End::Done);
+    assert!(rt; ran.end == End::Done);
     let written = b"0 Values found\n-1 Line too long\n0 Values found\n";
     assert_eq!(rt; output.as_slice(), written.as_slice());
     Ok(())
@@ -267,10 +267,10 @@ fn too_much_input_ends_the_run(rt: HostRuntime) -> Result<(), Fail> {
     let mut bytes = b"LISTVAL\n".to_vec(alloc)?;
     bytes.resize(INPUT_LIMIT, b'\n')?;
     let (full, _) = ran(alloc, "--lines", bytes.as_slice(), LinkPlan::new(alloc))?;
-    assert_eq!(rt; full.end, End::Done);
+    assert!(rt; full.end == End::Done);
     bytes.push(b'\n')?;
     let (more, output) = ran(alloc, "--lines", bytes.as_slice(), LinkPlan::new(alloc))?;
-    assert_eq!(rt; more.end, End::InputTooLong);
+    assert!(rt; more.end == End::InputTooLong);
     assert_eq!(rt; output.as_slice(), b"0 Values found\n".as_slice());
     Ok(())
 }
@@ -279,7 +279,7 @@ fn too_much_input_ends_the_run(rt: HostRuntime) -> Result<(), Fail> {
 fn words_and_ends(rt: HostRuntime) -> Result<(), Fail> {
     let alloc = rt.alloc();
     let (other, output) = ran(alloc, "-t", b"LISTVAL\n".as_slice(), LinkPlan::new(alloc))?;
-    assert_eq!(rt; other.end, End::Usage);
+    assert!(rt; other.end == End::Usage);
     assert_eq!(rt; output.len(), 0);
     assert_eq!(rt; calls_of(&other), Some(0));
     for (end, number, text) in [
@@ -313,13 +313,13 @@ fn nobody_writes(rt: HostRuntime) -> Result<(), Fail> {
     let reserved = shelf(alloc, "threshold")?;
     let plan = LinkPlan::new(alloc);
     let (refused, output) = ran_with(alloc, reserved, "--lines", lines.as_slice(), plan)?;
-    assert_eq!(rt; refused.end, End::Done);
+    assert!(rt; refused.end == End::Done);
     assert_eq!(rt; output.as_slice(), written.as_slice());
     assert_eq!(rt; calls_of(&refused), Some(0));
     assert!(rt; gave(&refused, given.as_slice()));
     let plan = LinkPlan::new(alloc);
     let (empty, output) = ran_with(alloc, Vec::new(alloc), "--lines", lines.as_slice(), plan)?;
-    assert_eq!(rt; empty.end, End::Done);
+    assert!(rt; empty.end == End::Done);
     assert_eq!(rt; output.as_slice(), written.as_slice());
     assert_eq!(rt; empty.plugs.len(), 0);
     assert!(rt; gave(&empty, given.as_slice()));
@@ -371,38 +371,10 @@ fn boxed_objects_come_back(rt: HostRuntime) -> Result<(), Fail> {
         plugs,
         probes,
     );
-    assert_eq!(rt; ran.end, End::Done);
+    assert!(rt; ran.end == End::Done);
     assert_eq!(rt; ran.plugs.len(), 1);
     let back = ran.probes.first().ok_or("no reader")?;
     assert_eq!(rt; back.name.as_str(), "r");
     assert_eq!(rt; input.output(), Some(b"0 Success\n".as_slice()));
-    Ok(())
-}
-
-/// Five lines, one of them refused, and what is written for them.
-const FIVE: (&str, &str) = (
-    "PUTVAL h/p/derive interval=10 1000:5 1010:7\nGETVAL h/p/derive\nFOO\nPUTVAL h/p/gauge 1:1\nLISTVAL\n",
-    "0 Success\n1 Value found\nvalue=0.200000\n-1 Unknown command\n0 Success\n2 Values found\n1010 h/p/derive\n1 h/p/gauge\n",
-);
-
-/// Whether five lines were served whole, or memory was lacking and what was said is a beginning; the writer is back.
-fn ends_well(ran: &RanOf<Telling, ()>, output: &[u8]) -> bool {
-    let whole = FIVE.1.as_bytes();
-    let back = ran.plugs.len() == 1;
-    match ran.end {
-        End::Done => back && output == whole,
-        End::Memory => back && whole.starts_with(output),
-        _ => false,
-    }
-}
-
-/// `rt try --test --fail-alloc N` runs this with the Nth allocation failing: where that is one of the test's own, or the
-/// link couldn't keep what was said, the test ends with that, and else it passes.
-#[test]
-fn five_lines_end_well_or_lack_memory(rt: HostRuntime) -> Result<(), Fail> {
-    let alloc = rt.alloc();
-    let plan = LinkPlan::new(alloc);
-    let (ran, output) = ran(alloc, "--lines", FIVE.0.as_bytes(), plan)?;
-    assert!(rt; ends_well(&ran, output.as_slice()));
     Ok(())
 }

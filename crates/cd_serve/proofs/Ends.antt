@@ -4,8 +4,10 @@ use Rattle.cd_daemon.specs.Answers.{close_answer, register_answer}
 use Rattle.cd_daemon.specs.Calls.{calls_to}
 use Rattle.cd_daemon.specs.Legal.{IsLegal}
 use Rattle.cd_daemon.specs.declared.Opening.{Opening}
+use Rattle.cd_history.proofs.Order.{front-more, front-refl, front-trans}
 use Rattle.cd_history.specs.History.{History, handles, kept, ◌▸◌}
-use Rattle.cd_history.specs.Leases.{answers_to}
+use Rattle.cd_history.specs.Leases.{answered}
+use Rattle.cd_history.specs.Order.{IsFrontOf}
 use Rattle.cd_history.specs.Registrations.{Registration, closed_by, is_text, live, registrations}
 use Rattle.cd_history.specs.declared.entry.Entry.TheVariants as entry
 use Rattle.cd_history.specs.declared.entry.Joining.TheVariants as joining
@@ -17,11 +19,13 @@ use Rattle.cd_registry.specs.Faults.{is_reserved}
 use Rattle.cd_serve.proofs.Shelves.{bytes_same, returned-same}
 use Rattle.cd_serve.proofs.Steps.{all_handled, live-is, same_number, works_on}
 use Rattle.cd_serve.specs.Promises.{IsRun}
+use Rattle.cd_serve.specs.Shelf.{loaded_of}
 use Rattle.cd_serve.specs.Working.Standing.{AreOf, RunsOn, Standing, Writes, registration_of}
 use Rattle.cd_sock.specs.Lines.{Cut}
 use Rattle.cd_transcript.proofs.Determined.{one_history}
-use Rattle.cd_transcript.proofs.Events.{closed-of_lines}
-use Rattle.cd_transcript.specs.LineRuns.{IsLineRun, OnShelf, Opens, ServesLines, closed, none, nothing, plug_in, registers, returned}
+use Rattle.cd_transcript.proofs.Events.{handed_out-of_lines}
+use Rattle.cd_transcript.proofs.Fronts.{handed_out_front}
+use Rattle.cd_transcript.specs.LineRuns.{IsLineRun, OnShelf, Opens, ServesLines, all_handed_out, none, nothing, plug_in, registers, returned}
 use Rattle.cd_transcript.specs.Transcripts.{line_says, of_lines}
 use Rattle.std.proofs.Common.{Bool, Err, IfSome, List, Ok, Some, [], ap, false, inl, inr, length, refl, subst, sym, true, ℕ, ◌∙◌, ◌∷◌, ◌≡◌}
 use Rattle.std.proofs.lemmas.List.{append-nil}
@@ -40,12 +44,7 @@ pub opens_registered : (shelf : List OnShelf) (P : History) → Opens shelf P []
 opens_registered [] P = none
 opens_registered (plug ∷ plugs) P = plug_in (opens_registered plugs (P ▸ registers P plug))
 
--- what is registered is registered as a one-thread daemon does it
-pub registered_legal : (K : Opening) (shelf : List OnShelf) (P : History) → IsLegal K P → IsLegal K (registered shelf P)
-registered_legal K [] P legal = legal
-registered_legal K (plug ∷ plugs) P legal = registered_legal K plugs (P ▸ registers P plug) (legal, refl)
-
-begun : (K : Opening) → Standing K false [] [] (empty K.timeout) []
+begun : (K : Opening) → Standing K false [] [] (empty K.globals.timeout) []
 begun K = record {
   legal = tt;
   is_so = refl;
@@ -57,21 +56,24 @@ begun K = record {
   queued = refl;
   counted = refl;
   taken = λ r. refl;
-  answered = λ r. refl;
   caches = refl;
 }
 
-pub run_begins_empty : (K : Opening) → RunsOn K [] [] false [] (empty K.timeout) (registered [] [])
+pub run_begins_empty : (K : Opening) → RunsOn K [] [] false [] (empty K.globals.timeout) (registered [] [])
 run_begins_empty K = record { regs = []; standing = begun K; of_shelf = refl; writes = refl; back = refl }
 
 module _ (K : Opening) (plug : OnShelf) where
+  -- one that isn't loaded isn't registered
+  pub run_begins_left_out : RunsOn K (plug ∷ []) (plug ∷ []) false [] (empty K.globals.timeout) []
+  run_begins_left_out = record { regs = []; standing = begun K; of_shelf = inl refl; writes = refl; back = refl }
+
   abbrev with_reply : Result ℕ RegisterFault → History
   with_reply reply = [] ▸ entry.Register 0 plug.name (joining.Plug plug.kinds [] plug.tells) reply
 
   -- a reserved name is refused
-  pub run_begins_refused : is_reserved plug.name ≡ true → RunsOn K (plug ∷ []) (plug ∷ []) false [] (empty K.timeout) (registered (plug ∷ []) [])
+  pub run_begins_refused : is_reserved plug.name ≡ true → RunsOn K (plug ∷ []) (plug ∷ []) false [] (empty K.globals.timeout) (registered (plug ∷ []) [])
   run_begins_refused taken =
-      subst (λ (reply : Result ℕ RegisterFault). RunsOn K (plug ∷ []) (plug ∷ []) false [] (empty K.timeout) (with_reply reply)) (sym is) (record {
+      subst (λ (reply : Result ℕ RegisterFault). RunsOn K (plug ∷ []) (plug ∷ []) false [] (empty K.globals.timeout) (with_reply reply)) (sym is) (record {
         regs = [];
         standing = record {
           legal = (tt, sym is);
@@ -84,7 +86,6 @@ module _ (K : Opening) (plug : OnShelf) where
           queued = refl;
           counted = refl;
           taken = λ r. refl;
-          answered = λ r. refl;
           caches = refl;
         };
         of_shelf = inl refl;
@@ -96,9 +97,9 @@ module _ (K : Opening) (plug : OnShelf) where
       is = rw taken refl
 
   pub run_begins : (writer : Bool) → is_reserved plug.name ≡ false → Writes writer (registration_of plug ∷ [])
-      → RunsOn K (plug ∷ []) (plug ∷ []) writer [] (empty K.timeout) (registered (plug ∷ []) [])
+      → RunsOn K (plug ∷ []) (plug ∷ []) writer [] (empty K.globals.timeout) (registered (plug ∷ []) [])
   run_begins writer free writes =
-      subst (λ (reply : Result ℕ RegisterFault). RunsOn K (plug ∷ []) (plug ∷ []) writer [] (empty K.timeout) (with_reply reply)) (sym is) (record {
+      subst (λ (reply : Result ℕ RegisterFault). RunsOn K (plug ∷ []) (plug ∷ []) writer [] (empty K.globals.timeout) (with_reply reply)) (sym is) (record {
         regs = registration_of plug ∷ [];
         standing = record {
           legal = (tt, sym is);
@@ -111,7 +112,6 @@ module _ (K : Opening) (plug : OnShelf) where
           queued = refl;
           counted = refl;
           taken = λ r. refl;
-          answered = λ r. refl;
           caches = refl;
         };
         of_shelf = inr refl;
@@ -122,7 +122,7 @@ module _ (K : Opening) (plug : OnShelf) where
       is : register_answer [] plug.name ≡ Ok 0
       is = rw free refl
 
-      told_alike : plug ∷ [] ≡ returned K (with_reply (Ok 0)) (plug ∷ [])
+      told_alike : plug ∷ [] ≡ returned (with_reply (Ok 0)) (plug ∷ [])
       told_alike = rw (bytes_same plug.name) refl
 
 -- ---- the end
@@ -139,7 +139,6 @@ stopped_standing {K = K} {P = P} s = record {
   queued = s.queued;
   counted = s.counted;
   taken = λ r. s.taken r ∙ ap length (sym (append-nil (calls_to K r P)));
-  answered = λ r. s.answered r ∙ ap length (sym (append-nil (calls_to K r P)));
   caches = s.caches;
 }
 
@@ -155,61 +154,57 @@ module _ {K : Opening} {cache : CacheMap} (g : Registration) (Q : History) (s : 
   closed_by_us : IfSome (closed_by g.number after_close) (λ b. b ≡ 0)
   closed_by_us = rw (closes-one, same_number g.number) refl
 
-  handed_out_legal : IsLegal K (closed K (g ∷ []) Q)
+  handed_out_legal : IsLegal K (all_handed_out K (g ∷ []) Q)
   handed_out_legal = ((s.legal, refl), (refl, closed_by_us))
 
 -- the registrations of a shelf of at most one plug-in are closed and handed out as a one-thread daemon does it
-few_handed_out : {K : Opening} {cache : CacheMap} (opened : List OnShelf) (regs : List Registration) (Q : History) → AreOf opened regs → Standing K true regs [] cache Q → IsLegal K (closed K regs Q)
-few_handed_out {K = K} {cache = cache} [] regs Q of_shelf s = let P : List Registration → Type 0 = λ gs. IsLegal K (closed K gs Q) in subst P (sym of_shelf) s.legal
+few_handed_out : {K : Opening} {cache : CacheMap} (opened : List OnShelf) (regs : List Registration) (Q : History) → AreOf opened regs → Standing K true regs [] cache Q → IsLegal K (all_handed_out K regs Q)
+few_handed_out {K = K} {cache = cache} [] regs Q of_shelf s = let P : List Registration → Type 0 = λ gs. IsLegal K (all_handed_out K gs Q) in subst P (sym of_shelf) s.legal
 few_handed_out {K = K} {cache = cache} (plug ∷ []) regs Q of_shelf s =
-    let P : List Registration → Type 0 = λ gs. IsLegal K (closed K gs Q) in
+    let P : List Registration → Type 0 = λ gs. IsLegal K (all_handed_out K gs Q) in
     elim of_shelf [
       | inl is ↦ subst P (sym is) s.legal
       | inr is ↦ subst P (sym is) (handed_out_legal (registration_of plug) Q (let S : List Registration → Type 0 = λ gs. Standing K true gs [] cache Q in subst S is s))
     ]
 few_handed_out (plug ∷ (next ∷ plugs)) regs Q of_shelf s = absurd of_shelf
 
-closed-handles : (K : Opening) (gs : List Registration) (P : History) → handles (closed K gs P) ≡ handles P
-closed-handles K [] P = refl
-closed-handles K (g ∷ gs) P = closed-handles K gs _
+handed_out-handles : (K : Opening) (gs : List Registration) (P : History) → handles (all_handed_out K gs P) ≡ handles P
+handed_out-handles K [] P = refl
+handed_out-handles K (g ∷ gs) P = handed_out-handles K gs _
 
-closed-kept : (K : Opening) (gs : List Registration) (P : History) → kept (closed K gs P) ≡ kept P
-closed-kept K [] P = refl
-closed-kept K (g ∷ gs) P = closed-kept K gs _
+handed_out-kept : (K : Opening) (gs : List Registration) (P : History) → kept (all_handed_out K gs P) ≡ kept P
+handed_out-kept K [] P = refl
+handed_out-kept K (g ∷ gs) P = handed_out-kept K gs _
 
-closed-registrations : (K : Opening) (gs : List Registration) (P : History) → registrations (closed K gs P) ≡ registrations P
-closed-registrations K [] P = refl
-closed-registrations K (g ∷ gs) P = closed-registrations K gs _
+handed_out-registrations : (K : Opening) (gs : List Registration) (P : History) → registrations (all_handed_out K gs P) ≡ registrations P
+handed_out-registrations K [] P = refl
+handed_out-registrations K (g ∷ gs) P = handed_out-registrations K gs _
 
-closed-calls_to : (K : Opening) (gs : List Registration) (P : History) (r : ℕ) → calls_to K r (closed K gs P) ≡ calls_to K r P
-closed-calls_to K [] P r = refl
-closed-calls_to K (g ∷ gs) P r = closed-calls_to K gs _ r ∙ append-nil _ ∙ append-nil (calls_to K r P)
-
-closed-answers_to : (K : Opening) (gs : List Registration) (P : History) (r : ℕ) → answers_to r (closed K gs P) ≡ answers_to r P
-closed-answers_to K [] P r = refl
-closed-answers_to K (g ∷ gs) P r = closed-answers_to K gs _ r
+handed_out-answered : (K : Opening) (gs : List Registration) (P : History) (r : ℕ) → answered r (all_handed_out K gs P) ≡ answered r P
+handed_out-answered K [] P r = refl
+handed_out-answered K (g ∷ gs) P r = handed_out-answered K gs _ r
 
 -- the history of a run that has served these lines
 abbrev pub after_stop : History → History
 after_stop P = P ▸ entry.Stop 0 why.ControlEnd
 
 abbrev pub at_end : Opening → History → History
-at_end K P = closed K (live (after_stop P)) (after_stop P)
+at_end K P = all_handed_out K (live (after_stop P)) (after_stop P)
 
-pub run_ends : {K : Opening} {opened shelf : List OnShelf} {writer : Bool} {cache : CacheMap} {lines : List Cut} {given : List Given} (O P : History)
-    → RunsOn K opened shelf writer [] cache P → Opens opened [] [] O → ServesLines K (line_says K) lines O given P
-    → IsRun K opened shelf lines given (at_end K P)
-run_ends {K = K} {opened = opened} {cache = cache} {lines = lines} {given = given} O P s opens serves = record {
-  legal = few_handed_out opened (live (after_stop P)) (after_stop P) (let A : List Registration → Type 0 = AreOf opened in subst A (sym regs) s.of_shelf)
+pub run_ends : {K : Opening} (loads : List ℕ → Bool) {shelf back : List OnShelf} {writer : Bool} {cache : CacheMap} {lines : List Cut} {given : List Given} (O P : History)
+    → RunsOn K shelf back writer [] cache P → Opens (loaded_of loads shelf) [] [] O → ServesLines K (line_says K) lines O given P
+    → IsRun K loads shelf back lines given (at_end K P)
+run_ends {K = K} loads {shelf = shelf} {cache = cache} {lines = lines} {given = given} O P s opens serves = record {
+  legal = few_handed_out shelf (live (after_stop P)) (after_stop P) (let A : List Registration → Type 0 = AreOf shelf in subst A (sym regs) s.of_shelf)
       (let S : List Registration → Type 0 = λ gs. Standing K true gs [] cache (after_stop P) in subst S (sym regs) (stopped_standing s.standing));
   made = is_made;
   only = λ other r. one_history K (line_says K) r is_made;
-  handled = closed-handles K (live (after_stop P)) (after_stop P) ∙ all_handled s.standing ∙ ap length (sym (closed-kept K (live (after_stop P)) (after_stop P)));
-  told = s.back ∙ sym (returned-same K P (at_end K P) (closed-registrations K (live (after_stop P)) (after_stop P))
-      (λ r. closed-calls_to K (live (after_stop P)) (after_stop P) r ∙ append-nil (calls_to K r P)) (closed-answers_to K (live (after_stop P)) (after_stop P)) opened);
+  handled = handed_out-handles K (live (after_stop P)) (after_stop P) ∙ all_handled s.standing ∙ ap length (sym (handed_out-kept K (live (after_stop P)) (after_stop P)));
+  told = s.back ∙ sym (returned-same P (at_end K P) (handed_out-registrations K (live (after_stop P)) (after_stop P))
+      (handed_out-answered K (live (after_stop P)) (after_stop P)) shelf);
 }
   where
-    is_made : IsLineRun K (line_says K) opened lines given (at_end K P)
+    is_made : IsLineRun K (line_says K) (loaded_of loads shelf) lines given (at_end K P)
     is_made = record {
       opened = O;
       served = P;
@@ -228,4 +223,7 @@ run_ends {K = K} {opened = opened} {cache = cache} {lines = lines} {given = give
     regs = live-is (stopped_standing s.standing)
 
 pub at_end-of_lines : (K : Opening) (P : History) → of_lines (at_end K P) ≡ of_lines P
-at_end-of_lines K P = closed-of_lines K (live (after_stop P)) (after_stop P)
+at_end-of_lines K P = handed_out-of_lines K (live (after_stop P)) (after_stop P)
+
+pub at_end_front : (K : Opening) (P : History) → IsFrontOf P (at_end K P)
+at_end_front K P = front-trans (front-more _ (front-refl P)) (handed_out_front K (live (after_stop P)) (after_stop P))

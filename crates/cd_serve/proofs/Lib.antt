@@ -5,3 +5,4 @@ pub mod Gifts
 pub mod Working
 pub mod Serving
 pub mod Promises
+pub mod Outcomes

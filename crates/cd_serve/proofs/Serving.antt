@@ -3,6 +3,7 @@ use Rattle.cd_cache.specs.Cache.{CacheMap, cached}
 use Rattle.cd_cache.specs.Rows.{rows_of}
 use Rattle.cd_daemon.specs.Answers.{accept_answer, found_in, query_answer}
 use Rattle.cd_daemon.specs.declared.Opening.{Opening}
+use Rattle.cd_history.proofs.Order.{front-more, front-refl, front-trans}
 use Rattle.cd_history.specs.History.{History, ◌▸◌}
 use Rattle.cd_history.specs.declared.entry.Entry.TheVariants as entry
 use Rattle.cd_history.specs.declared.entry.Found.{Found}
@@ -13,7 +14,7 @@ use Rattle.cd_reading.specs.Gives.{Gives, Refuses}
 use Rattle.cd_serve.proofs.Gifts.{gave_moment, gave_words}
 use Rattle.cd_serve.proofs.Shelves.{run_accepts, run_asks}
 use Rattle.cd_serve.proofs.Steps.{accepted_ok, works_on}
-use Rattle.cd_serve.specs.Working.Progress.{HasServed, IsNotBlank, IsWorking, Obeys, Puts, Seen, Serves, opening_of, with_moment}
+use Rattle.cd_serve.specs.Working.Progress.{HasServed, HasServedOneMore, IsNotBlank, IsWorking, Obeys, Puts, Seen, Serves, with_moment}
 use Rattle.cd_sock.specs.Faults.{line_fault}
 use Rattle.cd_sock.specs.Lines.{Cut}
 use Rattle.cd_sock.specs.Meaning.{IsSameButTimes, ListsFit, meaning}
@@ -25,6 +26,7 @@ use Rattle.cd_sock.specs.declared.fault.LineFault.{LineFault}
 use Rattle.cd_sock.specs.declared.reply.Reply.TheVariants as reply
 use Rattle.cd_sock.specs.declared.reply.Reply.{Reply}
 use Rattle.cd_transcript.proofs.Events.{blank_writes, got_writes, listed_writes, put_writes, refused_writes, written_more}
+use Rattle.cd_transcript.proofs.Fronts.{works_front}
 use Rattle.cd_transcript.specs.LineRuns.{IsAsked, ServesLines, Works, blank, got, listed, nothing, one_more, put, refused}
 use Rattle.cd_transcript.specs.Transcripts.{IsTranscript, Said, found_reply, line_says, of_lines, offered_reply}
 use Rattle.cd_types.specs.Types.{fits}
@@ -41,86 +43,87 @@ use Rattle.std.specs.Prelude.{IsOkAnd}
 still : {K : Opening} (P : History) → Works K IsAsked P [] P
 still P = nothing
 
-module _ (begun : Seen) (lines : List Cut) (text : List ℕ) (old : Seen) (h : HasServed begun lines text old) (line : Cut) where
+module _ (begun : Seen) (opened : History) (lines : List Cut) (text : List ℕ) (old : Seen) (h : HasServed begun opened lines text old) (line : Cut) where
+  -- one line more
+  abbrev More : List ℕ → Seen → Type 0
+  More reply new = HasServedOneMore h line reply new
+
   -- a blank line changes nothing
-  pub served_blank : line_says (opening_of begun) line 0 ≡ Ok command.Blank → HasServed begun (lines ++ line ∷ []) (text ++ []) old
+  pub served_blank : line_says begun.opening line 0 ≡ Ok command.Blank → More [] old
   served_blank is = record {
-    opened = h.opened;
-    past = h.past;
-    types = h.types;
-    interval = h.interval;
-    opens = h.opens;
-    runs = h.runs;
-    serves = subst (λ (given : List Given). ServesLines (opening_of begun) (line_says (opening_of begun)) (lines ++ line ∷ []) h.opened given h.past) (append-nil old.given) (one_more h.serves (blank is));
-    written = written_more _ h.written (blank_writes _ line h.past is);
-    gave = h.gave;
+    served = record {
+      past = h.past;
+      opening = h.opening;
+      runs = h.runs;
+      serves = subst (λ (given : List Given). ServesLines begun.opening (line_says begun.opening) (lines ++ line ∷ []) opened given h.past) (append-nil old.given) (one_more h.serves (blank is));
+      written = written_more _ h.written (blank_writes _ line h.past is);
+      gave = h.gave;
+    };
+    front = front-refl h.past;
   }
 
   module _ (now : ℕ) (at : IfSome old.pairs.clock (λ pair. now ≡ pair.0)) where
     -- a refused line only asks a moment
-    pub served_refused : (fault : LineFault) → line_says (opening_of begun) line 0 ≡ Err fault
-        → HasServed begun (lines ++ line ∷ []) (text ++ reply_text (reply.Fault fault)) (with_moment now old)
+    pub served_refused : (fault : LineFault) → line_says begun.opening line 0 ≡ Err fault → More (reply_text (reply.Fault fault)) (with_moment now old)
     served_refused fault is = record {
-      opened = h.opened;
-      past = h.past;
-      types = h.types;
-      interval = h.interval;
-      opens = h.opens;
-      runs = h.runs;
-      serves = one_more h.serves (refused is (works_on h.runs.standing nothing));
-      written = written_more _ h.written (refused_writes _ {K = opening_of begun} line h.past h.past fault is (still h.past));
-      gave = gave_moment begun.pairs old.pairs old.given now h.gave at;
+      served = record {
+        past = h.past;
+        opening = h.opening;
+        runs = h.runs;
+        serves = one_more h.serves (refused is (works_on h.runs.standing nothing));
+        written = written_more _ h.written (refused_writes _ {K = begun.opening} line h.past h.past fault is (still h.past));
+        gave = gave_moment begun.pairs old.pairs old.given now h.gave at;
+      };
+      front = front-refl h.past;
     }
 
-    same_cache : (name : List ℕ) → query_answer (opening_of begun) h.past (Some name) ≡ found_in old.types (cached name old.cache)
-    same_cache name = rw (h.runs.standing.caches, h.types) refl
+    same_cache : (name : List ℕ) → query_answer begun.opening h.past (Some name) ≡ found_in old.opening.types (cached name old.cache)
+    same_cache name = rw (h.runs.standing.caches, h.opening) refl
 
     -- a name is asked for
-    pub served_asked : (id : Fields) → line_says (opening_of begun) line 0 ≡ Ok (command.GetVal id)
-        → HasServed begun (lines ++ line ∷ []) (text ++ reply_text (found_reply (found_in old.types (cached (name_of id) old.cache)))) (with_moment now old)
+    pub served_asked : (id : Fields) → line_says begun.opening line 0 ≡ Ok (command.GetVal id)
+        → More (reply_text (found_reply (found_in old.opening.types (cached (name_of id) old.cache)))) (with_moment now old)
     served_asked id is = record {
-      opened = h.opened;
-      past = h.past ▸ entry.Query 0 (Some (name_of id)) (query_answer (opening_of begun) h.past (Some (name_of id)));
-      types = h.types;
-      interval = h.interval;
-      opens = h.opens;
-      runs = run_asks (Some (name_of id)) h.runs;
-      serves = one_more h.serves (got is (works_on (run_asks (Some (name_of id)) h.runs).standing nothing));
-      written = let W : Found → Type 0 = λ found. IsTranscript (line_says (opening_of begun)) (lines ++ line ∷ []) (of_lines (h.past ▸ entry.Query 0 (Some (name_of id)) (query_answer (opening_of begun) h.past (Some (name_of id))))) (text ++ reply_text (found_reply found)) in
-          subst W (same_cache (name_of id)) (written_more _ h.written (got_writes _ {K = opening_of begun} line h.past _ 0 id _ is (still _)));
-      gave = gave_moment begun.pairs old.pairs old.given now h.gave at;
+      served = record {
+        past = h.past ▸ entry.Query 0 (Some (name_of id)) (query_answer begun.opening h.past (Some (name_of id)));
+        opening = h.opening;
+        runs = run_asks (Some (name_of id)) h.runs;
+        serves = one_more h.serves (got is (works_on (run_asks (Some (name_of id)) h.runs).standing nothing));
+        written = let W : Found → Type 0 = λ found. IsTranscript (line_says begun.opening) (lines ++ line ∷ []) (of_lines (h.past ▸ entry.Query 0 (Some (name_of id)) (query_answer begun.opening h.past (Some (name_of id))))) (text ++ reply_text (found_reply found)) in
+            subst W (same_cache (name_of id)) (written_more _ h.written (got_writes _ {K = begun.opening} line h.past _ 0 id _ is (still _)));
+        gave = gave_moment begun.pairs old.pairs old.given now h.gave at;
+      };
+      front = front-more _ (front-refl h.past);
     }
 
     -- all rows are asked for
-    pub served_listed : line_says (opening_of begun) line 0 ≡ Ok command.ListVal
-        → HasServed begun (lines ++ line ∷ []) (text ++ reply_text (reply.Listed (rows_of old.cache))) (with_moment now old)
+    pub served_listed : line_says begun.opening line 0 ≡ Ok command.ListVal → More (reply_text (reply.Listed (rows_of old.cache))) (with_moment now old)
     served_listed is = record {
-      opened = h.opened;
-      past = h.past ▸ entry.Query 0 None (query_answer (opening_of begun) h.past None);
-      types = h.types;
-      interval = h.interval;
-      opens = h.opens;
-      runs = run_asks None h.runs;
-      serves = one_more h.serves (listed is (works_on (run_asks None h.runs).standing nothing));
-      written = let W : CacheMap → Type 0 = λ cache. IsTranscript (line_says (opening_of begun)) (lines ++ line ∷ []) (of_lines (h.past ▸ entry.Query 0 None (query_answer (opening_of begun) h.past None))) (text ++ reply_text (reply.Listed (rows_of cache))) in
-          subst W h.runs.standing.caches (written_more _ h.written (listed_writes _ {K = opening_of begun} line h.past _ 0 _ is (still _)));
-      gave = gave_moment begun.pairs old.pairs old.given now h.gave at;
+      served = record {
+        past = h.past ▸ entry.Query 0 None (query_answer begun.opening h.past None);
+        opening = h.opening;
+        runs = run_asks None h.runs;
+        serves = one_more h.serves (listed is (works_on (run_asks None h.runs).standing nothing));
+        written = let W : CacheMap → Type 0 = λ cache. IsTranscript (line_says begun.opening) (lines ++ line ∷ []) (of_lines (h.past ▸ entry.Query 0 None (query_answer begun.opening h.past None))) (text ++ reply_text (reply.Listed (rows_of cache))) in
+            subst W h.runs.standing.caches (written_more _ h.written (listed_writes _ {K = begun.opening} line h.past _ 0 _ is (still _)));
+        gave = gave_moment begun.pairs old.pairs old.given now h.gave at;
+      };
+      front = front-more _ (front-refl h.past);
     }
 
     -- lists are accepted and handled
-    module _ (lists at_zero : List ValueList) (new : Seen) (puts : Puts lists (with_moment now old) new) (fit : IsTrue (list_all (fits old.types) lists)) where
+    module _ (lists at_zero : List ValueList) (new : Seen) (puts : Puts lists (with_moment now old) new) (fit : IsTrue (list_all (fits old.opening.types) lists)) where
       abbrev words : List ℕ
       words = puts.rolled.words
 
       abbrev start : History
-      start = h.past ▸ entry.Accept 0 lists words now (accept_answer (opening_of begun) h.past lists words)
+      start = h.past ▸ entry.Accept 0 lists words now (accept_answer begun.opening h.past lists words)
 
       begins : IsWorking begun start puts.mid.given lists puts.mid
       begins = let W : Seen → Type 0 = IsWorking begun start puts.mid.given lists in subst W (sym puts.rolled.seen) (record {
         past = start;
-        types = h.types;
-        interval = h.interval;
-        runs = run_accepts lists words now h.runs (let F : List DataSet → Type 0 = λ types. IsTrue (list_all (fits types) lists) in subst F h.types fit) puts.rolled.many;
+        opening = h.opening;
+        runs = run_accepts lists words now h.runs (let F : Opening → Type 0 = λ K. IsTrue (list_all (fits K.types) lists) in subst F h.opening fit) puts.rolled.many;
         given = [];
         follows = sym (append-nil _) ∙ ap (λ (given : List Given). given ++ []) (sym (ap (λ (s : Seen). s.given) puts.rolled.seen));
         works = nothing;
@@ -135,29 +138,25 @@ module _ (begun : Seen) (lines : List Cut) (text : List ℕ) (old : Seen) (h : H
           ∙ append_assoc (old.given ++ Now now ∷ []) (map Word words) ends.given
           ∙ append_assoc old.given (Now now ∷ []) (map Word words ++ ends.given)
 
-      pub served_put : line_says (opening_of begun) line 0 ≡ Ok (command.PutVal at_zero) → line_says (opening_of begun) line now ≡ Ok (command.PutVal lists)
-          → HasServed begun (lines ++ line ∷ []) (text ++ reply_text reply.Success) new
+      pub served_put : line_says begun.opening line 0 ≡ Ok (command.PutVal at_zero) → line_says begun.opening line now ≡ Ok (command.PutVal lists) → More (reply_text reply.Success) new
       served_put zero is = record {
-        opened = h.opened;
-        past = ends.past;
-        types = ends.types;
-        interval = ends.interval;
-        opens = h.opens;
-        runs = ends.runs;
-        serves = subst (λ (given : List Given). ServesLines (opening_of begun) (line_says (opening_of begun)) (lines ++ line ∷ []) h.opened given ends.past) (sym given_is)
-            (one_more h.serves (put zero is puts.rolled.many (works_on ends.runs.standing ends.works)));
-        written = let W : Result (List Offered) Stopping → Type 0 = λ answer. IsTranscript (line_says (opening_of begun)) (lines ++ line ∷ []) (of_lines ends.past) (text ++ reply_text (offered_reply answer)) in
-            subst W (accepted_ok lists words h.runs.standing) (written_more _ h.written (put_writes _ line h.past ends.past 0 now lists words (accept_answer (opening_of begun) h.past lists words) is ends.works));
-        gave = ends.gave;
+        served = record {
+          past = ends.past;
+          opening = ends.opening;
+          runs = ends.runs;
+          serves = subst (λ (given : List Given). ServesLines begun.opening (line_says begun.opening) (lines ++ line ∷ []) opened given ends.past) (sym given_is)
+              (one_more h.serves (put zero is puts.rolled.many (works_on ends.runs.standing ends.works)));
+          written = let W : Result (List Offered) Stopping → Type 0 = λ answer. IsTranscript (line_says begun.opening) (lines ++ line ∷ []) (of_lines ends.past) (text ++ reply_text (offered_reply answer)) in
+              subst W (accepted_ok lists words h.runs.standing) (written_more _ h.written (put_writes _ line h.past ends.past 0 now lists words (accept_answer begun.opening h.past lists words) is ends.works));
+          gave = ends.gave;
+        };
+        front = front-trans (front-more _ (front-refl h.past)) (works_front ends.works);
       }
 
--- the meaning with the types and the interval of a run's beginning
-along : (seen begun : Seen) (now : ℕ) (bytes : List ℕ) (said : Said) → seen.types ≡ begun.types → seen.interval ≡ begun.interval
-    → meaning seen.types now seen.interval bytes ≡ said → meaning begun.types now begun.interval bytes ≡ said
-along seen begun now bytes said types interval is =
-    let M : List DataSet → Type 0 = λ ts. meaning ts now seen.interval bytes ≡ said in
-    let N : ℕ → Type 0 = λ i. meaning begun.types now i bytes ≡ said in
-    subst N interval (subst M types is)
+-- the meaning with what is in force at a run's beginning
+along : (seen begun : Seen) (now : ℕ) (bytes : List ℕ) (said : Said) → seen.opening ≡ begun.opening
+    → meaning seen.opening.types now seen.opening.globals.interval bytes ≡ said → meaning begun.opening.types now begun.opening.globals.interval bytes ≡ said
+along seen begun now bytes said same is = let M : Opening → Type 0 = λ K. meaning K.types now K.globals.interval bytes ≡ said in subst M same is
 
 -- what a line that offers lists, asks for a name or for all says at another moment
 module _ (types : List DataSet) (bytes : List ℕ) where
@@ -172,54 +171,57 @@ module _ (types : List DataSet) (bytes : List ℕ) where
   put_at_zero lists (Ok command.ListVal) h = absurd (cc)
   put_at_zero lists (Err e) h = absurd h
 
-obeyed : (begun : Seen) (lines : List Cut) (text : List ℕ) (old : Seen) (h : HasServed begun lines text old) (bytes : List ℕ) (now : ℕ) (at : IfSome old.pairs.clock (λ pair. now ≡ pair.0))
-    (said : Command) (answer : Reply) (new : Seen) → IsNotBlank bytes → meaning begun.types now begun.interval bytes ≡ Ok said → IsOkAnd (meaning begun.types 0 begun.interval bytes) (IsSameButTimes said)
-    → ListsFit old.types said → Obeys said answer (with_moment now old) new → HasServed begun (lines ++ Some bytes ∷ []) (text ++ reply_text answer) new
-obeyed begun lines text old h bytes now at command.Blank answer new not is zero fit o = absurd (not begun.types now begun.interval is)
-obeyed begun lines text old h bytes now at (command.PutVal lists) answer new not is zero fit o =
-    let first = put_at_zero begun.types bytes lists (meaning begun.types 0 begun.interval bytes) zero in
-    let A : Reply → Type 0 = λ a. HasServed begun (lines ++ Some bytes ∷ []) (text ++ reply_text a) new in
-    subst A (sym o.0) (served_put begun lines text old h (Some bytes) now at lists first.0 new o.1 fit first.1 is)
-obeyed begun lines text old h bytes now at (command.GetVal id) answer new not is zero fit o =
-    let first = some_command begun.types bytes (command.GetVal id) (meaning begun.types 0 begun.interval bytes) zero in
-    let A : Reply → Type 0 = λ a. HasServed begun (lines ++ Some bytes ∷ []) (text ++ reply_text a) new in
-    let S : Seen → Type 0 = λ s. HasServed begun (lines ++ Some bytes ∷ []) (text ++ reply_text (found_reply (found_in old.types (cached (name_of id) old.cache)))) s in
-    subst A (sym o.1) (subst S (sym o.0) (served_asked begun lines text old h (Some bytes) now at id (first.1 ∙ ap Ok (sym first.2))))
-obeyed begun lines text old h bytes now at command.ListVal answer new not is zero fit o =
-    let first = some_command begun.types bytes command.ListVal (meaning begun.types 0 begun.interval bytes) zero in
-    let A : Reply → Type 0 = λ a. HasServed begun (lines ++ Some bytes ∷ []) (text ++ reply_text a) new in
-    let S : Seen → Type 0 = λ s. HasServed begun (lines ++ Some bytes ∷ []) (text ++ reply_text (reply.Listed (rows_of old.cache))) s in
-    subst A (sym o.1) (subst S (sym o.0) (served_listed begun lines text old h (Some bytes) now at (first.1 ∙ ap Ok (sym first.2))))
+module _ (begun : Seen) (opened : History) (lines : List Cut) (text : List ℕ) (old : Seen) (h : HasServed begun opened lines text old) (bytes : List ℕ) (now : ℕ)
+    (at : IfSome old.pairs.clock (λ pair. now ≡ pair.0)) where
+  -- what the line says
+  abbrev at_moment_says : ℕ → Said
+  at_moment_says moment = meaning begun.opening.types moment begun.opening.globals.interval bytes
+
+  obeyed : (said : Command) (answer : Reply) (new : Seen) → IsNotBlank bytes → at_moment_says now ≡ Ok said → IsOkAnd (at_moment_says 0) (IsSameButTimes said)
+      → ListsFit old.opening.types said → Obeys said answer (with_moment now old) new → HasServedOneMore h (Some bytes) (reply_text answer) new
+  obeyed command.Blank answer new not is zero fit o = absurd (not begun.opening.types now begun.opening.globals.interval is)
+  obeyed (command.PutVal lists) answer new not is zero fit o =
+      let first = put_at_zero begun.opening.types bytes lists (at_moment_says 0) zero in
+      let A : Reply → Type 0 = λ a. HasServedOneMore h (Some bytes) (reply_text a) new in
+      subst A (sym o.0) (served_put begun opened lines text old h (Some bytes) now at lists first.0 new o.1 fit first.1 is)
+  obeyed (command.GetVal id) answer new not is zero fit o =
+      let first = some_command begun.opening.types bytes (command.GetVal id) (at_moment_says 0) zero in
+      let A : Reply → Type 0 = λ a. HasServedOneMore h (Some bytes) (reply_text a) new in
+      let S : Seen → Type 0 = λ s. HasServedOneMore h (Some bytes) (reply_text (found_reply (found_in old.opening.types (cached (name_of id) old.cache)))) s in
+      subst A (sym o.1) (subst S (sym o.0) (served_asked begun opened lines text old h (Some bytes) now at id (first.1 ∙ ap Ok (sym first.2))))
+  obeyed command.ListVal answer new not is zero fit o =
+      let first = some_command begun.opening.types bytes command.ListVal (at_moment_says 0) zero in
+      let A : Reply → Type 0 = λ a. HasServedOneMore h (Some bytes) (reply_text a) new in
+      let S : Seen → Type 0 = λ s. HasServedOneMore h (Some bytes) (reply_text (reply.Listed (rows_of old.cache))) s in
+      subst A (sym o.1) (subst S (sym o.0) (served_listed begun opened lines text old h (Some bytes) now at (first.1 ∙ ap Ok (sym first.2))))
 
 module _ (old at_moment : Seen) (now : ℕ) (at : IfSome old.pairs.clock (λ pair. now ≡ pair.0)) (then : at_moment ≡ with_moment now old) where
-  same_types : at_moment.types ≡ old.types
-  same_types = ap (λ (s : Seen). s.types) then
+  same_opening : at_moment.opening ≡ old.opening
+  same_opening = ap (λ (s : Seen). s.opening) then
 
-  same_interval : at_moment.interval ≡ old.interval
-  same_interval = ap (λ (s : Seen). s.interval) then
-
-  pub serves_command : (bytes : List ℕ) (said : Command) (answer : Reply) (new : Seen) → IsNotBlank bytes → Gives (λ c. c) line_fault (Ok said) (meaning at_moment.types now at_moment.interval bytes)
-      → ((later other : ℕ) → IsOkAnd (meaning at_moment.types later other bytes) (IsSameButTimes said))
-      → ListsFit at_moment.types said → Obeys said answer at_moment new → Serves (Some bytes) (reply_text answer) old new
-  serves_command bytes said answer new not is zero fit o begun lines text h =
-      obeyed begun lines text old h bytes now at said answer new not (along at_moment begun now bytes (Ok said) (same_types ∙ h.types) (same_interval ∙ h.interval) is)
-      (let Z : List DataSet → Type 0 = λ types. IsOkAnd (meaning types 0 begun.interval bytes) (IsSameButTimes said) in subst Z (same_types ∙ h.types) (zero 0 begun.interval))
-      (let F : List DataSet → Type 0 = λ types. ListsFit types said in subst F same_types fit)
+  pub serves_command : (bytes : List ℕ) (said : Command) (answer : Reply) (new : Seen) → IsNotBlank bytes
+      → Gives (λ c. c) line_fault (Ok said) (meaning at_moment.opening.types now at_moment.opening.globals.interval bytes)
+      → ((later other : ℕ) → IsOkAnd (meaning at_moment.opening.types later other bytes) (IsSameButTimes said))
+      → ListsFit at_moment.opening.types said → Obeys said answer at_moment new → Serves (Some bytes) (reply_text answer) old new
+  serves_command bytes said answer new not is zero fit o begun opened lines text h =
+      obeyed begun opened lines text old h bytes now at said answer new not (along at_moment begun now bytes (Ok said) (same_opening ∙ h.opening) is)
+      (let Z : Opening → Type 0 = λ K. IsOkAnd (meaning K.types 0 begun.opening.globals.interval bytes) (IsSameButTimes said) in subst Z (same_opening ∙ h.opening) (zero 0 begun.opening.globals.interval))
+      (let F : Opening → Type 0 = λ K. ListsFit K.types said in subst F same_opening fit)
       (let O : Seen → Type 0 = λ s. Obeys said answer s new in subst O then o)
 
-  pub serves_fault : (bytes : List ℕ) (fault : LineFault) → meaning at_moment.types 0 at_moment.interval bytes ≡ Err fault → Serves (Some bytes) (reply_text (reply.Fault fault)) old at_moment
-  serves_fault bytes fault is begun lines text h =
-      let S : Seen → Type 0 = λ s. HasServed begun (lines ++ Some bytes ∷ []) (text ++ reply_text (reply.Fault fault)) s in
-      subst S (sym then) (served_refused begun lines text old h (Some bytes) now at fault
-      (along at_moment begun 0 bytes (Err fault) (same_types ∙ h.types) (same_interval ∙ h.interval) is))
+  pub serves_fault : (bytes : List ℕ) (fault : LineFault) → meaning at_moment.opening.types 0 at_moment.opening.globals.interval bytes ≡ Err fault
+      → Serves (Some bytes) (reply_text (reply.Fault fault)) old at_moment
+  serves_fault bytes fault is begun opened lines text h =
+      let S : Seen → Type 0 = λ s. HasServedOneMore h (Some bytes) (reply_text (reply.Fault fault)) s in
+      subst S (sym then) (served_refused begun opened lines text old h (Some bytes) now at fault (along at_moment begun 0 bytes (Err fault) (same_opening ∙ h.opening) is))
 
   pub serves_too_long : Serves None (reply_text (reply.Fault faults.LineTooLong)) old at_moment
-  serves_too_long begun lines text h =
-      let S : Seen → Type 0 = λ s. HasServed begun (lines ++ None ∷ []) (text ++ reply_text (reply.Fault faults.LineTooLong)) s in
-      subst S (sym then) (served_refused begun lines text old h None now at faults.LineTooLong refl)
+  serves_too_long begun opened lines text h =
+      let S : Seen → Type 0 = λ s. HasServedOneMore h None (reply_text (reply.Fault faults.LineTooLong)) s in
+      subst S (sym then) (served_refused begun opened lines text old h None now at faults.LineTooLong refl)
 
 serves_blank : (old : Seen) (bytes : List ℕ) → ((types : List DataSet) (now interval : ℕ) → meaning types now interval bytes ≡ Ok command.Blank) → Serves (Some bytes) [] old old
-serves_blank old bytes is begun lines text h = served_blank begun lines text old h (Some bytes) (is begun.types 0 begun.interval)
+serves_blank old bytes is begun opened lines text h = served_blank begun opened lines text old h (Some bytes) (is begun.opening.types 0 begun.opening.globals.interval)
 
 refuses_known : {A : Type 0} (fault : LineFault) (read : Result A LineFault) → line_fault fault ≡ Some fault → Refuses (line_fault fault) read → read ≡ Err fault
 refuses_known fault read known is = let R : Option LineFault → Type 0 = λ f. Refuses f read in subst R known is
@@ -237,7 +239,7 @@ serves_blank_as old bytes line reply is empty are =
     subst L (sym is) (subst R (sym empty) (serves_blank old bytes are))
 
 pub serves_refusal : (old at_moment : Seen) (now : ℕ) (bytes : List ℕ) (fault : LineFault) (answer : Reply) → IfSome old.pairs.clock (λ pair. now ≡ pair.0) → at_moment ≡ with_moment now old
-    → answer ≡ reply.Fault fault → line_fault fault ≡ Some fault → ((later other : ℕ) → Refuses (line_fault fault) (meaning at_moment.types later other bytes)) → Serves (Some bytes) (reply_text answer) old at_moment
+    → answer ≡ reply.Fault fault → line_fault fault ≡ Some fault → ((later other : ℕ) → Refuses (line_fault fault) (meaning at_moment.opening.types later other bytes)) → Serves (Some bytes) (reply_text answer) old at_moment
 serves_refusal old at_moment now bytes fault answer at then is known refuses =
     let A : Reply → Type 0 = λ a. Serves (Some bytes) (reply_text a) old at_moment in
-    subst A (sym is) (serves_fault old at_moment now at then bytes fault (refuses_known fault _ known (refuses 0 at_moment.interval)))
+    subst A (sym is) (serves_fault old at_moment now at then bytes fault (refuses_known fault _ known (refuses 0 at_moment.opening.globals.interval)))

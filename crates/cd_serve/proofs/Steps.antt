@@ -1,12 +1,12 @@
 -- The steps of a daemon with at most one plug-in.
 use Rattle.cd_cache.specs.Cache.{CacheMap}
-use Rattle.cd_daemon.specs.Answers.{accept_answer, handle_answer, is_idle, is_ready, next_call, query_answer, ready}
+use Rattle.cd_daemon.specs.Answers.{accept_answer, handle_answer, is_idle, may_be_taken, next_call, query_answer, ready}
 use Rattle.cd_daemon.specs.Calls.{cache_after, calls_to, pending, sent_to}
-use Rattle.cd_daemon.specs.Handling.{Handling, handling, handling_if_any, next_handling, next_list, stored, to_each}
+use Rattle.cd_daemon.specs.Handling.{Handling, handling, handling_if_any, next_handling, next_list, set_of, stored, to_each}
 use Rattle.cd_daemon.specs.declared.Opening.{Opening}
 use Rattle.cd_history.specs.History.{History, handles, kept, kept_of, ◌▸◌}
-use Rattle.cd_history.specs.Leases.{answers_to, taken_by, takes}
-use Rattle.cd_history.specs.Registrations.{Registration, is_closed, is_plug, is_retired, listening, live, registrations}
+use Rattle.cd_history.specs.Leases.{taken_by, takes}
+use Rattle.cd_history.specs.Registrations.{Registration, is_closed, is_plug, is_retired, listeners, live, registrations}
 use Rattle.cd_history.specs.declared.entry.Entry.TheVariants as entry
 use Rattle.cd_history.specs.declared.given.Given.TheVariants.{Answered, Now}
 use Rattle.cd_history.specs.declared.given.Given.{Given}
@@ -44,7 +44,7 @@ same_number n = grind arith
 none_pending : {K : Opening} {stopped : Bool} {regs : List Registration} {queue : List ValueList} {cache : CacheMap} {P : History} → Standing K stopped regs queue cache P → (r : ℕ) → pending K P r ≡ 0
 none_pending {K = K} {P = P} s r = omega (arith, s.taken r)
 
-not_ready : {K : Opening} {stopped : Bool} {regs : List Registration} {queue : List ValueList} {cache : CacheMap} {P : History} → Standing K stopped regs queue cache P → (g : Registration) → is_ready K P g ≡ false
+not_ready : {K : Opening} {stopped : Bool} {regs : List Registration} {queue : List ValueList} {cache : CacheMap} {P : History} → Standing K stopped regs queue cache P → (g : Registration) → may_be_taken K P g ≡ false
 not_ready {K = K} {P = P} s g = rw (none_pending s g.number) (last (is_plug g.joining) (not (is_retired g.number P)) _)
   where
     last : (a b c : Bool) → (a && b && c && false) ≡ false
@@ -53,7 +53,7 @@ not_ready {K = K} {P = P} s g = rw (none_pending s g.number) (last (is_plug g.jo
 pub none_ready : {K : Opening} {stopped : Bool} {regs : List Registration} {queue : List ValueList} {cache : CacheMap} {P : History} → Standing K stopped regs queue cache P → ready K P ≡ None
 none_ready {K = K} {P = P} s = found (registrations P)
   where
-    found : (gs : List Registration) → elim (find (is_ready K P) gs) as (λ o. Option ℕ) [ None ↦ None | Some g ↦ Some g.number ] ≡ None
+    found : (gs : List Registration) → elim (find (may_be_taken K P) gs) as (λ o. Option ℕ) [ None ↦ None | Some g ↦ Some g.number ] ≡ None
     found [] = refl
     found (g ∷ gs) = rw (not_ready s g) (found gs)
 
@@ -94,7 +94,6 @@ accepts {K = K} {regs = regs} {cache = cache} {P = P} lists words now s fit many
       queued = rw (all_kept lists, s.queued, append-nil s.earlier) refl;
       counted = s.counted;
       taken = λ r. s.taken r ∙ ap length (sym (quiet (calls_to K r P)));
-      answered = λ r. s.answered r ∙ ap length (sym (quiet (calls_to K r P)));
       caches = s.caches;
     })
 
@@ -112,12 +111,12 @@ handles-as {K = K} {cache = cache} {P = P} v queue now s =
 
 -- the cache after the next list
 stored_next : {K : Opening} {stopped : Bool} {regs : List Registration} {cache : CacheMap} {P : History} (v : ValueList) (queue : List ValueList) (now : ℕ)
-    → Standing K stopped regs (v ∷ queue) cache P → (next_handling K (cache_after K P) P now).cache ≡ stored K.types v now cache
+    → Standing K stopped regs (v ∷ queue) cache P → (next_handling K (cache_after K P) P now).cache ≡ stored (set_of K.types v) v now cache
 stored_next v queue now s = ap (λ (h : Handling). h.cache) (handles-as v queue now s)
 
 -- the calls that it makes
 posts_next : {K : Opening} {stopped : Bool} {regs : List Registration} {cache : CacheMap} {P : History} (v : ValueList) (queue : List ValueList) (now : ℕ)
-    → Standing K stopped regs (v ∷ queue) cache P → (next_handling K (cache_after K P) P now).posts ≡ to_each (listening WRITE P) (calls.Write v)
+    → Standing K stopped regs (v ∷ queue) cache P → (next_handling K (cache_after K P) P now).posts ≡ to_each (listeners WRITE (live P)) (calls.Write v)
 posts_next v queue now s = ap (λ (h : Handling). h.posts) (handles-as v queue now s)
 
 pub one_queued : {K : Opening} {stopped : Bool} {regs : List Registration} {cache : CacheMap} {P : History} (v : ValueList) (queue : List ValueList) → Standing K stopped regs (v ∷ queue) cache P → handles P < length (kept P)
@@ -128,12 +127,12 @@ one_more xs v = omega (arith, length-append xs (v ∷ []))
 
 -- where nobody is written to no call is made
 pub calls_to-unwritten : {K : Opening} {stopped : Bool} {regs : List Registration} {cache : CacheMap} {P : History} (v : ValueList) (queue : List ValueList) (now : ℕ)
-    → Standing K stopped regs (v ∷ queue) cache P → listening WRITE P ≡ [] → (r : ℕ) → calls_to K r (P ▸ entry.Handle 0 now (handle_answer K P now)) ≡ calls_to K r P
+    → Standing K stopped regs (v ∷ queue) cache P → listeners WRITE (live P) ≡ [] → (r : ℕ) → calls_to K r (P ▸ entry.Handle 0 now (handle_answer K P now)) ≡ calls_to K r P
 calls_to-unwritten {K = K} {P = P} v queue now s nobody r = rw (posts_next v queue now s, nobody) (quiet (calls_to K r P))
 
 pub handles_unwritten : {K : Opening} {stopped : Bool} {regs : List Registration} {cache : CacheMap} {P : History} (v : ValueList) (queue : List ValueList) (now : ℕ)
-    → Standing K stopped regs (v ∷ queue) cache P → listening WRITE P ≡ []
-    → Standing K stopped regs queue (stored K.types v now cache) (P ▸ entry.Handle 0 now (handle_answer K P now))
+    → Standing K stopped regs (v ∷ queue) cache P → listeners WRITE (live P) ≡ []
+    → Standing K stopped regs queue (stored (set_of K.types v) v now cache) (P ▸ entry.Handle 0 now (handle_answer K P now))
 handles_unwritten {K = K} {P = P} v queue now s nobody = record {
   legal = (s.legal, (refl, one_queued v queue s));
   is_so = s.is_so;
@@ -145,7 +144,6 @@ handles_unwritten {K = K} {P = P} v queue now s nobody = record {
   queued = s.queued ∙ sym (append_assoc s.earlier (v ∷ []) queue);
   counted = ap (λ (n : ℕ). n + 1) s.counted ∙ one_more s.earlier v;
   taken = λ r. s.taken r ∙ ap length (sym (calls_to-unwritten v queue now s nobody r));
-  answered = λ r. s.answered r ∙ ap length (sym (calls_to-unwritten v queue now s nobody r));
   caches = stored_next v queue now s;
 }
 
@@ -160,7 +158,7 @@ live-is {regs = regs} {P = P} s = ap (filter (λ g. not (is_closed g.number P)))
 live_one : {K : Opening} {stopped : Bool} {g : Registration} {queue : List ValueList} {cache : CacheMap} {P : History} → Standing K stopped (g ∷ []) queue cache P → live P ≡ g ∷ []
 live_one s = live-is s
 
-pub listens : {K : Opening} {stopped : Bool} {g : Registration} {queue : List ValueList} {cache : CacheMap} {P : History} → Standing K stopped (g ∷ []) queue cache P → IsWriter g → listening WRITE P ≡ g.number ∷ []
+pub listens : {K : Opening} {stopped : Bool} {g : Registration} {queue : List ValueList} {cache : CacheMap} {P : History} → Standing K stopped (g ∷ []) queue cache P → IsWriter g → listeners WRITE (live P) ≡ g.number ∷ []
 listens s w = rw (live_one s, w.writes) refl
 
 -- the calls to r after a write to a registration
@@ -174,9 +172,9 @@ sent_one n r call = by (nat_eq n r) refl
     by true e = rw e refl
     by false e = rw e refl
 
-ready_first : (K : Opening) (Q : History) (g : Registration) → registrations Q ≡ g ∷ [] → is_ready K Q g ≡ true → ready K Q ≡ Some g.number
+ready_first : (K : Opening) (Q : History) (g : Registration) → registrations Q ≡ g ∷ [] → may_be_taken K Q g ≡ true → ready K Q ≡ Some g.number
 ready_first K Q g is able =
-    ap (λ (gs : List Registration). elim (find (is_ready K Q) gs) as (λ o. Option ℕ) [ None ↦ None | Some x ↦ Some x.number ]) is ∙ rw able refl
+    ap (λ (gs : List Registration). elim (find (may_be_taken K Q) gs) as (λ o. Option ℕ) [ None ↦ None | Some x ↦ Some x.number ]) is ∙ rw able refl
 
 module _ (K : Opening) (stopped : Bool) (g : Registration) (P : History) (v : ValueList) (queue : List ValueList) (cache : CacheMap) (now : ℕ) (answer : Answer) where
   abbrev pub after_handle : History
@@ -213,16 +211,11 @@ module _ (K : Opening) (stopped : Bool) (g : Registration) (P : History) (v : Va
   one_more_taken true n xs e = rw e (omega (arith, length-append xs (calls.Write v ∷ [])))
   one_more_taken false n xs e = e ∙ ap length (sym (quiet xs))
 
-  one_more_answered : (t : Bool) (given : List Answer) (xs : List Call) → length given ≡ length xs
-      → length (cond t (given ++ answer ∷ []) given) ≡ length (xs ++ cond t (calls.Write v ∷ []) [])
-  one_more_answered true given xs e = omega (arith, length-append given (answer ∷ []), length-append xs (calls.Write v ∷ []))
-  one_more_answered false given xs e = e ∙ ap length (sym (quiet xs))
-
   at_home : (t : Bool) (o : Option ℕ) → o ≡ None → cond t None (cond t (Some 0) o) ≡ None
   at_home true o e = refl
   at_home false o e = e
 
-  pub handles_written : Standing K stopped (g ∷ []) (v ∷ queue) cache P → IsWriter g → Standing K stopped (g ∷ []) queue (stored K.types v now cache) after_done
+  pub handles_written : Standing K stopped (g ∷ []) (v ∷ queue) cache P → IsWriter g → Standing K stopped (g ∷ []) queue (stored (set_of K.types v) v now cache) after_done
   handles_written s w = record {
     legal = (((s.legal, (refl, one_queued v queue s)), (ready_then s w, next_then s w)), rw (same_number g.number) refl);
     is_so = s.is_so;
@@ -234,7 +227,6 @@ module _ (K : Opening) (stopped : Bool) (g : Registration) (P : History) (v : Va
     queued = s.queued ∙ sym (append_assoc s.earlier (v ∷ []) queue);
     counted = ap (λ (n : ℕ). n + 1) s.counted ∙ one_more s.earlier v;
     taken = λ r. one_more_taken (nat_eq g.number r) (takes r P) (calls_to K r P) (s.taken r) ∙ ap length (sym (calls_to-after_done s w r));
-    answered = λ r. one_more_answered (nat_eq g.number r) (answers_to r P) (calls_to K r P) (s.answered r) ∙ ap length (sym (calls_to-after_done s w r));
     caches = stored_next v queue now s;
   }
 
@@ -257,6 +249,5 @@ asks {K = K} {P = P} name s = record {
   queued = s.queued;
   counted = s.counted;
   taken = λ r. s.taken r ∙ ap length (sym (quiet (calls_to K r P)));
-  answered = λ r. s.answered r ∙ ap length (sym (quiet (calls_to K r P)));
   caches = s.caches;
 }

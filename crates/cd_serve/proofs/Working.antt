@@ -1,7 +1,7 @@
 -- The steps of a daemon that works on a line.
 use Rattle.cd_cache.specs.Cache.{CacheMap}
 use Rattle.cd_daemon.specs.Answers.{handle_answer}
-use Rattle.cd_daemon.specs.Handling.{stored}
+use Rattle.cd_daemon.specs.Handling.{set_of, stored}
 use Rattle.cd_history.specs.History.{History, ◌▸◌}
 use Rattle.cd_history.specs.Registrations.{Registration}
 use Rattle.cd_history.specs.declared.entry.Entry.TheVariants as entry
@@ -14,7 +14,7 @@ use Rattle.cd_serve.proofs.Gifts.{gave_answer, gave_moment, one_more_word}
 use Rattle.cd_serve.proofs.Shelves.{run_handles_unwritten, run_handles_written}
 use Rattle.cd_serve.proofs.Steps.{after_done, none_ready, one_queued, works_written}
 use Rattle.cd_serve.specs.Working.Outside.{GaveUpTo, called_first}
-use Rattle.cd_serve.specs.Working.Progress.{IsWorking, Rolled, Seen, WasCalled, opening_of, with_answer, with_list, with_moment, with_word}
+use Rattle.cd_serve.specs.Working.Progress.{IsWorking, Rolled, Seen, WasCalled, with_answer, with_list, with_moment, with_word}
 use Rattle.cd_serve.specs.Working.Standing.{AreOf, IsWriter, RunsOn, Standing, Writes, registration_of}
 use Rattle.cd_transcript.specs.LineRuns.{OnShelf, handled, returned}
 use Rattle.cd_value.specs.declared.data.ValueList.{ValueList}
@@ -24,19 +24,18 @@ use Rattle.std.specs.Option.{option_map}
 
 module _ (begun : Seen) (start : History) (before : List Given) (list : ValueList) (queue : List ValueList) (seen : Seen) (now : ℕ) where
   -- the cache is made with the types that the daemon knows
-  cache_same : seen.types ≡ begun.types → stored seen.types list now seen.cache ≡ stored begun.types list now seen.cache
+  cache_same : seen.opening ≡ begun.opening → stored (set_of seen.opening.types list) list now seen.cache ≡ stored (set_of begun.opening.types list) list now seen.cache
   cache_same e = rw e refl
 
   -- nobody writes the list
   pub handled_unwritten : IsWorking begun start before (list ∷ queue) seen → IfSome seen.pairs.clock (λ pair. now ≡ pair.0) → seen.writer ≡ false
       → IsWorking begun start before queue (with_list list now (with_moment now seen))
   handled_unwritten w at unwritten = record {
-    past = w.past ▸ entry.Handle 0 now (handle_answer (opening_of begun) w.past now);
-    types = w.types;
-    interval = w.interval;
-    runs = let R : CacheMap → Type 0 = λ cache. RunsOn (opening_of begun) begun.shelf seen.shelf seen.writer queue cache (w.past ▸ entry.Handle 0 now (handle_answer (opening_of begun) w.past now)) in
-        subst R (sym (cache_same w.types)) (let F : Bool → Type 0 = λ writer. RunsOn (opening_of begun) begun.shelf seen.shelf writer queue (stored begun.types list now seen.cache) (w.past ▸ entry.Handle 0 now (handle_answer (opening_of begun) w.past now)) in
-        subst F (sym unwritten) (run_handles_unwritten list now (let G : Bool → Type 0 = λ writer. RunsOn (opening_of begun) begun.shelf seen.shelf writer (list ∷ queue) seen.cache w.past in subst G unwritten w.runs)));
+    past = w.past ▸ entry.Handle 0 now (handle_answer begun.opening w.past now);
+    opening = w.opening;
+    runs = let R : CacheMap → Type 0 = λ cache. RunsOn begun.opening begun.shelf seen.shelf seen.writer queue cache (w.past ▸ entry.Handle 0 now (handle_answer begun.opening w.past now)) in
+        subst R (sym (cache_same w.opening)) (let F : Bool → Type 0 = λ writer. RunsOn begun.opening begun.shelf seen.shelf writer queue (stored (set_of begun.opening.types list) list now seen.cache) (w.past ▸ entry.Handle 0 now (handle_answer begun.opening w.past now)) in
+        subst F (sym unwritten) (run_handles_unwritten list now (let G : Bool → Type 0 = λ writer. RunsOn begun.opening begun.shelf seen.shelf writer (list ∷ queue) seen.cache w.past in subst G unwritten w.runs)));
     given = w.given ++ Now now ∷ [];
     follows = ap (λ (g : List Given). g ++ Now now ∷ []) w.follows ∙ append_assoc before w.given (Now now ∷ []);
     works = handled w.works (none_ready w.runs.standing) (one_queued list queue w.runs.standing) refl;
@@ -55,40 +54,39 @@ module _ (begun : Seen) (start : History) (before : List Given) (list : ValueLis
   pub handled_written : (answer : Answer) → IsWorking begun start before (list ∷ queue) seen → IfSome seen.pairs.clock (λ pair. now ≡ pair.0) → seen.writer ≡ true
       → IsWorking begun start before queue (with_answer (calls.Write list) answer (with_list list now (with_moment now seen)))
   handled_written answer w at written =
-      let r : RunsOn (opening_of begun) begun.shelf seen.shelf true (list ∷ queue) seen.cache w.past =
-      (let G : Bool → Type 0 = λ writer. RunsOn (opening_of begun) begun.shelf seen.shelf writer (list ∷ queue) seen.cache w.past in subst G written w.runs) in
+      let r : RunsOn begun.opening begun.shelf seen.shelf true (list ∷ queue) seen.cache w.past =
+      (let G : Bool → Type 0 = λ writer. RunsOn begun.opening begun.shelf seen.shelf writer (list ∷ queue) seen.cache w.past in subst G written w.runs) in
       let by = written_by begun.shelf r.regs r.of_shelf r.writes in
       let plug : OnShelf = by.0 in
-      let standing : Standing (opening_of begun) false (registration_of plug ∷ []) (list ∷ queue) seen.cache w.past =
-      (let S : List Registration → Type 0 = λ regs. Standing (opening_of begun) false regs (list ∷ queue) seen.cache w.past in subst S by.2 r.standing) in
-      let one : RunsOn (opening_of begun) (plug ∷ []) seen.shelf true (list ∷ queue) seen.cache w.past =
-      (let O : List OnShelf → Type 0 = λ opened. RunsOn (opening_of begun) opened seen.shelf true (list ∷ queue) seen.cache w.past in subst O by.1 r) in
-      let Q : History = after_done (opening_of begun) false (registration_of plug) w.past list queue seen.cache now answer in
-      let then_runs : RunsOn (opening_of begun) (plug ∷ []) (called_first (calls.Write list) answer seen.shelf) true queue (stored begun.types list now seen.cache) Q =
-      run_handles_written (opening_of begun) plug seen.shelf queue seen.cache w.past list now answer one standing by.3 in
+      let standing : Standing begun.opening false (registration_of plug ∷ []) (list ∷ queue) seen.cache w.past =
+      (let S : List Registration → Type 0 = λ regs. Standing begun.opening false regs (list ∷ queue) seen.cache w.past in subst S by.2 r.standing) in
+      let one : RunsOn begun.opening (plug ∷ []) seen.shelf true (list ∷ queue) seen.cache w.past =
+      (let O : List OnShelf → Type 0 = λ opened. RunsOn begun.opening opened seen.shelf true (list ∷ queue) seen.cache w.past in subst O by.1 r) in
+      let Q : History = after_done begun.opening false (registration_of plug) w.past list queue seen.cache now answer in
+      let then_runs : RunsOn begun.opening (plug ∷ []) (called_first (calls.Write list) answer seen.shelf) true queue (stored (set_of begun.opening.types list) list now seen.cache) Q =
+      run_handles_written begun.opening plug seen.shelf queue seen.cache w.past list now answer one standing by.3 in
       record {
         past = Q;
-        types = w.types;
-        interval = w.interval;
-        runs = (let R : CacheMap → Type 0 = λ cache. RunsOn (opening_of begun) begun.shelf (called_first (calls.Write list) answer seen.shelf) seen.writer queue cache Q in
-            subst R (sym (cache_same w.types)) (let F : Bool → Type 0 = λ writer. RunsOn (opening_of begun) begun.shelf (called_first (calls.Write list) answer seen.shelf) writer queue (stored begun.types list now seen.cache) Q in
-            subst F (sym written) (let O : List OnShelf → Type 0 = λ opened. RunsOn (opening_of begun) opened (called_first (calls.Write list) answer seen.shelf) true queue (stored begun.types list now seen.cache) Q in subst O (sym by.1) then_runs)));
+        opening = w.opening;
+        runs = (let R : CacheMap → Type 0 = λ cache. RunsOn begun.opening begun.shelf (called_first (calls.Write list) answer seen.shelf) seen.writer queue cache Q in
+            subst R (sym (cache_same w.opening)) (let F : Bool → Type 0 = λ writer. RunsOn begun.opening begun.shelf (called_first (calls.Write list) answer seen.shelf) writer queue (stored (set_of begun.opening.types list) list now seen.cache) Q in
+            subst F (sym written) (let O : List OnShelf → Type 0 = λ opened. RunsOn begun.opening opened (called_first (calls.Write list) answer seen.shelf) true queue (stored (set_of begun.opening.types list) list now seen.cache) Q in subst O (sym by.1) then_runs)));
         given = (w.given ++ Now now ∷ []) ++ Answered answer ∷ [];
         follows = ap (λ (g : List Given). (g ++ Now now ∷ []) ++ Answered answer ∷ []) w.follows
             ∙ ap (λ (g : List Given). g ++ Answered answer ∷ []) (append_assoc before w.given (Now now ∷ []))
             ∙ append_assoc before (w.given ++ Now now ∷ []) (Answered answer ∷ []);
-        works = works_written (opening_of begun) false (registration_of plug) w.past list queue seen.cache now answer standing by.3 w.works;
+        works = works_written begun.opening false (registration_of plug) w.past list queue seen.cache now answer standing by.3 w.works;
         gave = gave_answer _ _ _ answer (gave_moment begun.pairs seen.pairs seen.given now w.gave at);
       }
 
   -- a writer has something on the shelf
   pub never_unwritten : IsWorking begun start before (list ∷ queue) seen → seen.writer ≡ true → seen.shelf ≡ [] → ⊥
   never_unwritten w written empty =
-      let r : RunsOn (opening_of begun) begun.shelf seen.shelf true (list ∷ queue) seen.cache w.past =
-      (let G : Bool → Type 0 = λ writer. RunsOn (opening_of begun) begun.shelf seen.shelf writer (list ∷ queue) seen.cache w.past in subst G written w.runs) in
+      let r : RunsOn begun.opening begun.shelf seen.shelf true (list ∷ queue) seen.cache w.past =
+      (let G : Bool → Type 0 = λ writer. RunsOn begun.opening begun.shelf seen.shelf writer (list ∷ queue) seen.cache w.past in subst G written w.runs) in
       let by = written_by begun.shelf r.regs r.of_shelf r.writes in
-      let same : seen.shelf ≡ returned (opening_of begun) w.past (by.0 ∷ []) = r.back ∙ ap (returned (opening_of begun) w.past) by.1 in
-      let e : [] ≡ returned (opening_of begun) w.past (by.0 ∷ []) = sym empty ∙ same in
+      let same : seen.shelf ≡ returned w.past (by.0 ∷ []) = r.back ∙ ap (returned w.past) by.1 in
+      let e : [] ≡ returned w.past (by.0 ∷ []) = sym empty ∙ same in
       cc
 
 pub on_ok : {T E : Type 0} {A B : Type 0} (r : Result T E) → (A → B) → OnOk r A → OnOk r B

@@ -1,4 +1,5 @@
 pub mod Promises
+pub mod Started
 pub mod Ends
 pub mod Shelf
 pub mod Tells

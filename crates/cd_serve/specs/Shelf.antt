@@ -3,13 +3,18 @@ use Rattle.cd_registry.specs.declared.kinds.Kinds.{Kinds}
 use Rattle.cd_registry.specs.declared.plug.PlugTells.{PlugTells}
 use Rattle.cd_serve.specs.declared.shelf.ShelvedOf.{ShelvedOf}
 use Rattle.cd_transcript.specs.LineRuns.{OnShelf}
-use Rattle.std.specs.Prelude.{List, map, ℕ}
+use Rattle.std.specs.List.{filter}
+use Rattle.std.specs.Prelude.{Bool, List, map, ℕ}
 
 abbrev pub shown : {P : Type 0} (tells : P → PlugTells) → ShelvedOf P → OnShelf
 shown tells plug = record { name = plug.name; kinds = plug.kinds; tells = tells plug.object }
 
 abbrev pub on_shelf : {P : Type 0} (tells : P → PlugTells) → List (ShelvedOf P) → List OnShelf
 on_shelf tells shelf = map (shown tells) shelf
+
+-- those of a shelf whose names are loaded, in order
+abbrev pub loaded_of : (List ℕ → Bool) → List OnShelf → List OnShelf
+loaded_of loads shelf = filter (λ plug. loads plug.name) shelf
 
 -- a place on a shelf: whose object stands there, whatever it has got
 pub record Place : Type 0 where

@@ -16,6 +16,7 @@ ghost use Rattle.std.specs.Prelude.{IfOk, IfSome, List, OnOk, Some, [], false, m
 use crate::outside::Outside;
 use cd_cache::{Cache, CacheEntry};
 use cd_dialogue::{Next, Response, Server};
+use cd_globals::Globals;
 use cd_history::{Given, Givens};
 use cd_registry::Call;
 use cd_sock::{Command, Line, LineFault, Reply, is_blank_line, print_reply};
@@ -23,13 +24,12 @@ use cd_types::TypesDb;
 use cd_value::{DataSource, Lists, Memory, Names, Text, TryCopy, ValueList};
 use std::alloc::Global;
 
-/// The daemon: the types that it knows, the interval of lists that name none, in units of 2^-30 s, what it asks of the
-/// outside, whether the first plug-in there is registered as a writer, the value cache, and what the outside gave so
-/// far.
+/// The daemon: the types that it knows, the settings of the whole daemon, what it asks of the outside, whether the
+/// first plug-in there is registered as a writer, the value cache, and what the outside gave so far.
 #[derive(Drop)]
 pub struct Daemon<O> {
     pub types: TypesDb,
-    pub interval: u64,
+    pub globals: Globals,
     pub outside: O,
     pub writer: bool,
     pub cache: Cache,
@@ -195,7 +195,7 @@ impl<O: Outside> Daemon<O> {
         ensures back { KeepsPlaces O.outside_shelf self.old self.new }
     {
         let now = self.moment()?;
-        match Command::read(alloc, line, &self.types, now, self.interval) {
+        match Command::read(alloc, line, &self.types, now, self.globals.interval) {
             Ok(command) => {
                 let reply = self.obey(alloc, command)?;
                 print_reply(alloc, &reply)

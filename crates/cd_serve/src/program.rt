@@ -1,24 +1,23 @@
-//! The run of the daemon on one thread.
+//! A run of the daemon on one thread, by the words of the command line.
+ghost use Rattle.cd_command.specs.Command.{command};
+ghost use Rattle.cd_command.specs.declared.command.Command.{Command};
 ghost use Rattle.cd_io.specs.Causes.{Rose};
-ghost use Rattle.cd_io.specs.Link.{LinkTells};
-ghost use Rattle.cd_registry.specs.Faults.{is_reserved};
-ghost use Rattle.cd_serve.specs.Promises.{IsWithin, Promises, is_lines};
+ghost use Rattle.cd_opening.specs.declared.fault.OpeningFault.{OpeningFault};
+ghost use Rattle.cd_serve.specs.Promises.{IsTaken, Promises};
 ghost use Rattle.cd_serve.specs.Shelf.{on_shelf, places};
-ghost use Rattle.cd_serve.specs.Working.Progress.{opened, seen_of, writes_first};
-ghost use Rattle.std.specs.Prelude.{IfErr, IfOk, false, length, map, string_bytes, true, ◌↔◌, ◌≡◌, ◌≤◌, ◌⊎◌};
+ghost use Rattle.cd_serve.specs.Started.{AreAccepted, AreRefused, HasTried, NoneFailed, end_at};
+ghost use Rattle.std.specs.Prelude.{None, Some, [], length, map, string_bytes, ◌≡◌, ◌≤◌, ◌⊎◌};
 
-use crate::daemon::Daemon;
-use crate::end::end_of;
-use crate::outside::{Around, Outside};
+use crate::configured::say_items;
+use crate::lines::serve_lines;
+use crate::outside::Around;
+use crate::started::start;
 use crate::{End, Shelved, ShelvedOf, ShelvedProbe, ShelvedProbeOf};
-use cd_cache::Cache;
-use cd_daemon::{INTERVAL, TIMEOUT};
-use cd_dialogue::serve_all;
+use cd_command::Mode;
 use cd_history::Givens;
-use cd_io::{Clock, Dice, Link, World};
-use cd_registry::{Kinds, Plug, Probe};
-use cd_types::TypesDb;
-use cd_value::{Sequence, Text};
+use cd_io::{Link, World};
+use cd_registry::{Plug, Probe};
+use cd_value::Sequence;
 use std::alloc::Global;
 use std::marker::Send;
 
@@ -38,64 +37,23 @@ pub struct RanOf<P, Q> {
 /// What a run with boxed objects gives back.
 pub type Ran = RanOf<Box<dyn Plug + Send>, Box<dyn Probe + Send>>;
 
-/// Whether the words of the command line are the program's name and `--lines`.
-fn is_lines(words: &[String]) -> bool
-    ensures { result ≡ is_lines (map string_bytes words.now) }
-{
-    match words {
-        [_, word] => word.as_str().as_bytes() == b"--lines".as_slice(),
-        _ => false,
-    }
-}
-
-/// Whether a name is one of the daemon's own.
-fn is_reserved(name: &Text) -> bool
-    ensures { result ≡ is_reserved name.now }
-{
-    matches!(name.as_str(), "threshold" | "unixsock" | "network")
-}
-
-/// Whether the first plug-in is registered and called with lists.
-fn writes_first<P: Plug>(shelf: &[ShelvedOf<P>]) -> bool
-    ensures { result ≡ writes_first (on_shelf P.plug_tells shelf.now) }
-{
-    match shelf.first() {
-        Some(plug) => !is_reserved(&plug.name) && plug.kinds.has(Kinds::WRITE),
-        None => false,
-    }
-}
-
-/// A daemon before the first line, with the built-in types and with the interval and the timeout that no option names;
-/// the shelf comes back where memory was lacking.
-fn begin<C: Clock, D: Dice, P: Plug>(
+/// What a run gives back in which no plug-in was called.
+fn uncalled<P: Drop, Q: Drop>(
     alloc: Global,
-    clock: C,
-    dice: D,
-    shelf: Vec<ShelvedOf<P>>,
-) -> Result<Daemon<Around<C, D, P>>, Vec<ShelvedOf<P>>>
-    requires few { length shelf.items ≤ 1 }
-    ensures ok { IfOk result (λ daemon. seen_of
-        ⟦<Around<C, D, P> as Outside>⟧.outside_pairs
-        ⟦<Around<C, D, P> as Outside>⟧.outside_shelf daemon
-        ≡ opened (on_shelf P.plug_tells shelf.items)
-        (record { clock = C.clock_pair clock; dice = D.dice_pair dice })) }
-    ensures err { IfErr result (λ back. back.items ≡ shelf.items) }
+    end: End,
+    plugs: Vec<ShelvedOf<P>>,
+    probes: Vec<ShelvedProbeOf<Q>>,
+) -> RanOf<P, Q>
+    ensures end { result.end ≡ end }
+    ensures given { result.given ≡ [] }
+    ensures plugs { result.plugs.items ≡ plugs.items }
+    ensures probes { result.probes.items ≡ probes.items }
 {
-    let writer = writes_first(shelf.as_slice());
-    match TypesDb::builtin(alloc) {
-        Ok(types) => Ok(Daemon {
-            types,
-            interval: INTERVAL,
-            outside: Around {
-                clock,
-                dice,
-                plugs: shelf,
-            },
-            writer,
-            cache: Cache::new(alloc, TIMEOUT),
-            given: Sequence::new(alloc),
-        }),
-        Err(_) => Err(shelf),
+    RanOf {
+        end,
+        given: Sequence::new(alloc),
+        plugs,
+        probes,
     }
 }
 
@@ -110,57 +68,64 @@ pub fn run_of<W: World, L: Link, P: Plug, Q: Drop>(
 ) -> RanOf<P, Q>
     requires few { length shelf.items ≤ 1 }
     ensures promises { Promises
+        (map string_bytes words.now) (W.world_tells world.old).files
         (on_shelf P.plug_tells shelf.items) (on_shelf P.plug_tells result.plugs.items)
         result.given
         (record { clock = W.world_clock_pair world.old; dice = W.world_dice_pair world.old })
         (L.link_tells input.old) (L.link_tells input.new)
         result.end }
-    ensures usage { result.end ≡ End.Usage ↔ is_lines (map string_bytes words.now) ≡ false }
-    ensures complete { is_lines (map string_bytes words.now) ≡ true
+    ensures tries { HasTried result.end (W.world_tells world.old) (W.world_tells world.new) }
+    ensures usage { command (map string_bytes words.now) ≡ None
+        → (result.end ≡ End.Usage) ⊎ (result.end ≡ End.Memory) }
+    ensures unheard { command (map string_bytes words.now) ≡ None → input.new ≡ input.old }
+    ensures faults { (of : Command) → (fault : OpeningFault)
+        → command (map string_bytes words.now) ≡ Some of
+        → AreRefused of.file (W.world_tells world.old).files fault
+        → NoneFailed (W.world_tells world.old) (W.world_tells world.new)
+        → (result.end ≡ end_at fault) ⊎ (result.end ≡ End.Memory) }
+    ensures complete { (of : Command)
+        → command (map string_bytes words.now) ≡ Some of
+        → AreAccepted of.file (W.world_tells world.old).files
+        → NoneFailed (W.world_tells world.old) (W.world_tells world.new)
         → (Rose (L.link_tells input.old).faults (L.link_tells input.new).faults → ⊥)
-        → IsWithin (L.link_tells input.old) (L.link_tells input.new)
+        → IsTaken of.mode (L.link_tells input.old) (L.link_tells input.new)
         → (result.end ≡ End.Done) ⊎ (result.end ≡ End.Memory) }
     ensures back { places (on_shelf P.plug_tells result.plugs.items)
         ≡ places (on_shelf P.plug_tells shelf.items) }
     ensures probes { result.probes.items ≡ probes.items }
 {
-    if !is_lines(words) {
-        return RanOf {
-            end: End::Usage,
-            given: Sequence::new(alloc),
-            plugs: shelf,
-            probes,
-        };
-    }
-    let clock = world.clock();
-    let dice = world.dice();
-    match begin(alloc, clock, dice, shelf) {
-        Ok(mut daemon) => {
-            let served = serve_all(alloc, input, &mut daemon, INPUT_LIMIT);
-            let Daemon { outside, given, .. } = daemon;
-            RanOf {
-                end: end_of(served),
-                given,
-                plugs: outside.plugs,
-                probes,
-            }
+    let (command, found) = match start(alloc, words, world) {
+        Ok(started) => started,
+        Err(end) => return uncalled(alloc, end, shelf, probes),
+    };
+    match command.mode {
+        Mode::Test => {
+            let end = say_items(alloc, &found.items, input);
+            uncalled(alloc, end, shelf, probes)
         }
-        Err(shelf) => RanOf {
-            end: End::Memory,
-            given: Sequence::new(alloc),
-            plugs: shelf,
-            probes,
-        },
+        Mode::Lines => {
+            let outside = Around {
+                clock: world.clock(),
+                dice: world.dice(),
+                plugs: shelf,
+            };
+            serve_lines(alloc, &command.file, found, input, outside, probes)
+        }
     }
 }
 
-/// Runs the daemon on one thread: the words of the command line are the program's name and `--lines`, and the lines of
-/// the input are those of collectd-unixsock(5). The first plug-in is registered under its name, each line is answered,
-/// its lists come to the cache and are written, and at the end of the input all objects come back, each in its place. A
-/// quiet counts as the end of the input.
+/// Runs the daemon on one thread by the words of the command line, as collectd(1) has them, the program's name first.
 ///
-/// It ends with `Usage` at other words, with `LinkFault` where the input failed, with `InputTooLong` where more than
-/// `INPUT_LIMIT` bytes came, and with `Memory` where memory was lacking.
+/// The file of `-C` is read, then the types files that it names, and its settings are made; without a file the types
+/// are the four built-in ones, and the settings those that no option names. With `-t` the canonical text of the
+/// configuration is said, and nothing is heard. With `--lines` the lines of the input are those of
+/// collectd-unixsock(5): the first plug-in is registered under its name where the file loads it or none is named, each
+/// line is answered, its lists come to the cache and are written, and at the end of the input all objects come back,
+/// each in its place. A quiet counts as the end of the input.
+///
+/// It ends with the first of these in order: `Usage` at words that are no command; `ConfFault`, `TypesFault`,
+/// `SettingsFault`, `OpenFault` and `ReadFault` by the files; `LinkFault` where the input failed; `InputTooLong` where
+/// more than `INPUT_LIMIT` bytes came. `Memory` may come at any time.
 pub fn run<W: World, L: Link>(
     alloc: Global,
     words: &[String],
@@ -171,16 +136,28 @@ pub fn run<W: World, L: Link>(
 ) -> Ran
     requires few { length shelf.items ≤ 1 }
     ensures promises { Promises
+        (map string_bytes words.now) (W.world_tells world.old).files
         (on_shelf ⟦<Box<dyn Plug + Send> as Plug>⟧.plug_tells shelf.items)
         (on_shelf ⟦<Box<dyn Plug + Send> as Plug>⟧.plug_tells result.plugs.items)
         result.given
         (record { clock = W.world_clock_pair world.old; dice = W.world_dice_pair world.old })
         (L.link_tells input.old) (L.link_tells input.new)
         result.end }
-    ensures usage { result.end ≡ End.Usage ↔ is_lines (map string_bytes words.now) ≡ false }
-    ensures complete { is_lines (map string_bytes words.now) ≡ true
+    ensures tries { HasTried result.end (W.world_tells world.old) (W.world_tells world.new) }
+    ensures usage { command (map string_bytes words.now) ≡ None
+        → (result.end ≡ End.Usage) ⊎ (result.end ≡ End.Memory) }
+    ensures unheard { command (map string_bytes words.now) ≡ None → input.new ≡ input.old }
+    ensures faults { (of : Command) → (fault : OpeningFault)
+        → command (map string_bytes words.now) ≡ Some of
+        → AreRefused of.file (W.world_tells world.old).files fault
+        → NoneFailed (W.world_tells world.old) (W.world_tells world.new)
+        → (result.end ≡ end_at fault) ⊎ (result.end ≡ End.Memory) }
+    ensures complete { (of : Command)
+        → command (map string_bytes words.now) ≡ Some of
+        → AreAccepted of.file (W.world_tells world.old).files
+        → NoneFailed (W.world_tells world.old) (W.world_tells world.new)
         → (Rose (L.link_tells input.old).faults (L.link_tells input.new).faults → ⊥)
-        → IsWithin (L.link_tells input.old) (L.link_tells input.new)
+        → IsTaken of.mode (L.link_tells input.old) (L.link_tells input.new)
         → (result.end ≡ End.Done) ⊎ (result.end ≡ End.Memory) }
     ensures back { places (on_shelf ⟦<Box<dyn Plug + Send> as Plug>⟧.plug_tells result.plugs.items)
         ≡ places (on_shelf ⟦<Box<dyn Plug + Send> as Plug>⟧.plug_tells shelf.items) }

@@ -1,9 +1,9 @@
 -- A list that is made value by value where each passes a test.
-use Rattle.std.proofs.Common.{◌≡◌, ℕ, ◌+◌, ◌<◌, ◌≤◌, Bool, true, false, ◌&&◌, cond, List, [], ◌∷◌, ◌++◌, map, length, take, get_or, Option, Some, None, refl, sym, ap, ◌∙◌}
-use Rattle.std.specs.List.{list_all}
-use Rattle.std.proofs.lemmas.List.{map_push, take_more, take_all}
+use Rattle.std.proofs.Common.{Bool, List, None, Option, Some, [], ap, cond, false, get_or, length, map, refl, sym, take, true, ℕ, ◌&&◌, ◌++◌, ◌+◌, ◌<◌, ◌∙◌, ◌∷◌, ◌≡◌, ◌≤◌}
+use Rattle.std.proofs.lemmas.Bool.{and_right, cond-false, cond-true}
 use Rattle.std.proofs.lemmas.List.Folds.{list_all-append, list_all_at}
-use Rattle.std.proofs.lemmas.Bool.{cond-true, cond-false, and_right}
+use Rattle.std.proofs.lemmas.List.{map_push, take_all, take_more}
+use Rattle.std.specs.List.{list_all}
 
 pub some_cond : {A : Type 0} (b : Bool) (x y : A) → cond b (Some x) None ≡ Some y → (b ≡ true) × (x ≡ y)
 some_cond {A} true x y e = (refl, cc)

@@ -1,40 +1,40 @@
 -- The lists of a command fit the types.
-use Rattle.std.proofs.Common.{◌≡◌, ℕ, zero, suc, ◌+◌, ◌*◌, ◌/◌, ◌^◌, ◌≤◌, ℤ, Bool, true, false, ◌&&◌, cond, List, [], ◌∷◌, map, length, Option, Some, None, Result, Ok, Err, refl, sym, ap, subst, ◌∙◌, arith}
-use Rattle.std.specs.Prelude.{◌==◌, nat_abs, nat_le, nat_lt, is_some, option_map, IfOk}
-use Rattle.std.specs.List.{list_all, find, filter_map, cons_option, zip}
-use Rattle.std.specs.Result.{result_ok}
-use Rattle.std.specs.Str.{bytes_eq}
-use Rattle.std.proofs.Math.Nat.{div-le_of_le-mul}
-use Rattle.std.proofs.lemmas.Bool.{and_parts, and_from, cond-true, cond-false, eq-eqb, eqb-true, le-leb, ltb-false}
-use Rattle.cd_reading.specs.First.{◌>>=◌, unless}
+use Rattle.cd_reading.specs.First.{unless, ◌>>=◌}
 use Rattle.cd_reading.specs.Gives.{Gives}
-use Rattle.cd_text.specs.declared.fault.NumFault.{NumFault}
-use Rattle.cd_text.specs.declared.word.Word.{Word}
+use Rattle.cd_sock.specs.Arguments.{from_first_plain, is_keyword, last_interval, leading_options}
+use Rattle.cd_sock.specs.Faults.{line_fault, need, of_words, with_fault}
+use Rattle.cd_sock.specs.Meaning.{Blank, GetVal, ListVal, ListsFit, PutVal, Request, at_moment, command_at, get_val, has_interval, identifier, is_blank_byte, is_blank_line, is_interval, list_at, list_val, put_known, put_parts, put_val, request_of, request_of_text, request_of_words, without_return}
+use Rattle.cd_sock.specs.Values.{Reading, change_of, count_of, has_count, has_time, has_values, is_unknown, reading, value_at, value_of, value_texts}
+use Rattle.cd_sock.specs.declared.command.Command.{Command}
+use Rattle.cd_sock.specs.declared.fault.LineFault.TheVariants.{BadOption, BadTime, BadValue, LineTooLong, NotUtf8, UnknownCommand, UnknownType, WrongNumberOfValues}
+use Rattle.cd_sock.specs.declared.fault.LineFault.{LineFault}
+use Rattle.cd_sock.specs.declared.lines.TheConstants.{LINE_LIMIT}
 use Rattle.cd_text.specs.Millionths.{bounded_millionths, ones_limit}
-use Rattle.cd_text.specs.declared.numbers.TheConstants.{DIGITS_LIMIT}
 use Rattle.cd_text.specs.Number.{denominator, is_number, number_of, numerator, parts_of, value, with_sign}
+use Rattle.cd_text.specs.Quoting.{words_of}
 use Rattle.cd_text.specs.declared.fault.NumFault.TheVariants.{BadNumber, OutOfRange}
+use Rattle.cd_text.specs.declared.fault.NumFault.{NumFault}
+use Rattle.cd_text.specs.declared.numbers.TheConstants.{DIGITS_LIMIT}
+use Rattle.cd_text.specs.declared.word.Word.{Word}
 use Rattle.cd_types.specs.Types.{fits, fits_set, fits_source, is_in_range, is_same_kind, kind_of, set_named}
-use Rattle.cd_value.specs.declared.numbers.TheConstants.{NUMBER_LIMIT}
 use Rattle.cd_value.specs.Identifier.{Fields}
 use Rattle.cd_value.specs.declared.data.DataSet.{DataSet}
 use Rattle.cd_value.specs.declared.data.DataSource.{DataSource}
-use Rattle.cd_value.specs.declared.data.DsType.{DsType}
 use Rattle.cd_value.specs.declared.data.DsType.TheVariants as kinds
+use Rattle.cd_value.specs.declared.data.DsType.{DsType}
+use Rattle.cd_value.specs.declared.data.Value.TheVariants.{Absolute, Counter, Derive, Gauge}
 use Rattle.cd_value.specs.declared.data.Value.{Value}
-use Rattle.cd_value.specs.declared.data.Value.TheVariants.{Counter, Gauge, Derive, Absolute}
 use Rattle.cd_value.specs.declared.data.ValueList.{ValueList}
-use Rattle.cd_sock.specs.declared.lines.TheConstants.{LINE_LIMIT}
-use Rattle.cd_sock.specs.declared.command.Command.{Command}
-use Rattle.cd_sock.specs.declared.fault.LineFault.{LineFault}
-use Rattle.cd_sock.specs.declared.fault.LineFault.TheVariants.{LineTooLong, NotUtf8, UnknownCommand, UnknownType, BadOption, BadTime, WrongNumberOfValues, BadValue}
-use Rattle.cd_sock.specs.Values.{change_of, count_of, has_count, has_time, has_values, is_unknown, reading, Reading, value_at, value_of, value_texts}
-use Rattle.cd_sock.specs.Arguments.{from_first_plain, is_keyword, last_interval, leading_options}
-use Rattle.cd_sock.specs.Faults.{line_fault, need, of_words, with_fault}
-use Rattle.cd_sock.specs.Meaning.{Request, Blank, PutVal, GetVal, ListVal, ListsFit, at_moment, command_at, get_val, has_interval, identifier, is_blank_byte, is_blank_line, is_interval, list_at, list_val, put_known, put_parts, put_val, request_of, request_of_text, request_of_words, without_return}
-use Rattle.cd_text.specs.Quoting.{words_of}
-use Rattle.std.specs.Str.{is_utf8}
+use Rattle.cd_value.specs.declared.numbers.TheConstants.{NUMBER_LIMIT}
+use Rattle.std.proofs.Common.{Bool, Err, List, None, Ok, Option, Result, Some, [], ap, arith, cond, false, length, map, refl, subst, suc, sym, true, zero, ℕ, ℤ, ◌&&◌, ◌*◌, ◌+◌, ◌/◌, ◌^◌, ◌∙◌, ◌∷◌, ◌≡◌, ◌≤◌}
+use Rattle.std.proofs.Math.Nat.{div-le_of_le-mul}
+use Rattle.std.proofs.lemmas.Bool.{and_from, and_parts, cond-false, cond-true, eq-eqb, eqb-true, le-leb, ltb-false}
+use Rattle.std.specs.List.{cons_option, filter_map, find, list_all, zip}
+use Rattle.std.specs.Prelude.{IfOk, is_some, nat_abs, nat_le, nat_lt, option_map, ◌==◌}
 use Rattle.std.specs.Prelude.{codes, unwrap_or}
+use Rattle.std.specs.Result.{result_ok}
+use Rattle.std.specs.Str.{bytes_eq}
+use Rattle.std.specs.Str.{is_utf8}
 
 -- ---- a value
 

@@ -1,25 +1,25 @@
 -- Printed replies as their clients read them.
-use Rattle.std.proofs.Common.{◌≡◌, ℕ, zero, suc, ◌+◌, ◌/◌, ◌%◌, ◌^◌, ◌<◌, ◌≤◌, ℤ, pos, negsuc, Bool, true, false, not, cond, List, [], ◌∷◌, ◌++◌, length, take, get_or, Option, Some, None, refl, sym, ap, ◌∙◌, subst, arith, append_assoc, lit<}
-use Rattle.std.specs.Prelude.{◌==◌, codes}
-use Rattle.std.specs.List.{list_all, list_any, position_or_len, flat_map}
-use Rattle.std.specs.Fmt.{decimal, digits, digits_onto, digit_glyph}
-use Rattle.std.specs.Str.Parse.{IsNumeral, digits_value, signed_digits_value, starts_with_minus, without_leading_sign}
-use Rattle.std.proofs.Math.Seq.{take-append_seam}
-use Rattle.std.proofs.lemmas.Bool.{and_parts, and_from, cond-false, lt-ltb, ne_eqb, not-true, or_right}
-use Rattle.std.proofs.lemmas.Fmt.{decimal_is_IsNumeral}
-use Rattle.std.proofs.lemmas.List.{append-nil}
-use Rattle.std.proofs.lemmas.List.Folds.{list_all-append, list_any-append}
-use Rattle.std.proofs.lemmas.Str.Parse.{digit_at, without_leading_plus_none}
-use Rattle.cd_value.specs.declared.numbers.TheConstants.{SECOND}
-use Rattle.cd_value.specs.declared.data.Rate.{Rate}
-use Rattle.cd_value.specs.Print.{digit, six_digits, unsigned_text, number_or_nan}
-use Rattle.cd_value.specs.Rates.{millionths}
-use Rattle.cd_sock.specs.Lines.{IsInLine, is_newline, lines, unfinished, whole_lines}
-use Rattle.cd_sock.specs.declared.fault.LineFault.{LineFault}
-use Rattle.cd_sock.specs.declared.fault.LineFault.TheVariants as faults
-use Rattle.cd_sock.specs.Replies.{fault_text, flushed_line, with_newline, rate_lines, rate_or_nan, row_line, values_found}
-use Rattle.cd_sock.specs.Framing.{AreFramed, HasStatus, IsFramed, status_word, is_one_line, is_space, lines_told, status}
 use Rattle.cd_sock.proofs.Pieces.{cons_in, empty_in, lines_at, unfinished_at}
+use Rattle.cd_sock.specs.Framing.{AreFramed, HasStatus, IsFramed, is_one_line, is_space, lines_told, status, status_word}
+use Rattle.cd_sock.specs.Lines.{IsInLine, is_newline, lines, unfinished, whole_lines}
+use Rattle.cd_sock.specs.Replies.{fault_text, flushed_line, rate_lines, rate_or_nan, row_line, values_found, with_newline}
+use Rattle.cd_sock.specs.declared.fault.LineFault.TheVariants as faults
+use Rattle.cd_sock.specs.declared.fault.LineFault.{LineFault}
+use Rattle.cd_value.specs.Print.{digit, number_or_nan, six_digits, unsigned_text}
+use Rattle.cd_value.specs.Rates.{millionths}
+use Rattle.cd_value.specs.declared.data.Rate.{Rate}
+use Rattle.cd_value.specs.declared.numbers.TheConstants.{SECOND}
+use Rattle.std.proofs.Common.{Bool, List, None, Option, Some, [], ap, append_assoc, arith, cond, false, get_or, length, lit<, negsuc, not, pos, refl, subst, suc, sym, take, true, zero, ℕ, ℤ, ◌%◌, ◌++◌, ◌+◌, ◌/◌, ◌<◌, ◌^◌, ◌∙◌, ◌∷◌, ◌≡◌, ◌≤◌}
+use Rattle.std.proofs.Math.Seq.{take-append_seam}
+use Rattle.std.proofs.lemmas.Bool.{and_from, and_parts, cond-false, lt-ltb, ne_eqb, not-true, or_right}
+use Rattle.std.proofs.lemmas.Fmt.{decimal_is_IsNumeral}
+use Rattle.std.proofs.lemmas.List.Folds.{list_all-append, list_any-append}
+use Rattle.std.proofs.lemmas.List.{append-nil}
+use Rattle.std.proofs.lemmas.Str.Parse.{digit_at, without_leading_plus_none}
+use Rattle.std.specs.Fmt.{decimal, digit_glyph, digits, digits_onto}
+use Rattle.std.specs.List.{flat_map, list_all, list_any, position_or_len}
+use Rattle.std.specs.Prelude.{codes, ◌==◌}
+use Rattle.std.specs.Str.Parse.{IsNumeral, digits_value, signed_digits_value, starts_with_minus, without_leading_sign}
 
 -- ---- texts without a byte
 

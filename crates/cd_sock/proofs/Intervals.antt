@@ -1,12 +1,12 @@
 -- The interval of PUTVAL's options.
-use Rattle.std.proofs.Common.{◌≡◌, ℕ, ◌-◌, Bool, true, false, ◌&&◌, List, [], ◌∷◌, ◌++◌, length, Option, Some, None, refl, ap, ◌∙◌, arith, length-append}
-use Rattle.std.specs.Prelude.{slice_get, ok_or, option_and_then, is_some}
-use Rattle.std.specs.List.{list_all}
-use Rattle.std.proofs.lemmas.List.Folds.{list_all-append}
-use Rattle.cd_text.specs.declared.word.Word.{Word}
-use Rattle.cd_sock.specs.declared.fault.LineFault.TheVariants.{BadTime}
 use Rattle.cd_sock.specs.Arguments.{argument, interval_of, last_interval}
-use Rattle.cd_sock.specs.Meaning.{has_interval, is_interval, interval_in}
+use Rattle.cd_sock.specs.Meaning.{has_interval, interval_in, is_interval}
+use Rattle.cd_sock.specs.declared.fault.LineFault.TheVariants.{BadTime}
+use Rattle.cd_text.specs.declared.word.Word.{Word}
+use Rattle.std.proofs.Common.{Bool, List, None, Option, Some, [], ap, arith, false, length, length-append, refl, true, ℕ, ◌&&◌, ◌++◌, ◌-◌, ◌∙◌, ◌∷◌, ◌≡◌}
+use Rattle.std.proofs.lemmas.List.Folds.{list_all-append}
+use Rattle.std.specs.List.{list_all}
+use Rattle.std.specs.Prelude.{is_some, ok_or, option_and_then, slice_get}
 
 get_last : {X : Type 0} (xs : List X) (x : X) → slice_get (xs ++ x ∷ []) (length xs) ≡ Some x
 get_last [] x = refl

@@ -1,20 +1,20 @@
 -- Laws of the meaning of a line.
-use Rattle.std.proofs.Common.{◌≡◌, ℕ, Bool, true, List, [], ◌∷◌, length, map, Option, Result, Ok, Err, refl, sym, ap, subst, ◌∙◌}
-use Rattle.std.specs.Prelude.{◌↔◌, IfOk, IsOkAnd, IsTrue, nat_le, unwrap_or}
-use Rattle.std.specs.List.{list_all}
-use Rattle.std.proofs.lemmas.Bool.{and_parts}
 use Rattle.cd_reading.specs.Gives.{Gives}
+use Rattle.cd_sock.proofs.Fits.{Stands, line_stands}
+use Rattle.cd_sock.specs.Faults.{line_fault}
+use Rattle.cd_sock.specs.Meaning.{Blank, GetVal, IsSameButTimes, ListVal, PutVal, Request, at_moment, command_at, is_blank_byte, is_blank_line, list_at, meaning, request_of, request_of_text, without_return, without_times}
+use Rattle.cd_sock.specs.Values.{Reading}
+use Rattle.cd_sock.specs.declared.command.Command.TheVariants as commands
+use Rattle.cd_sock.specs.declared.command.Command.{Command}
+use Rattle.cd_sock.specs.declared.fault.LineFault.{LineFault}
+use Rattle.cd_sock.specs.declared.lines.TheConstants.{LINE_LIMIT}
+use Rattle.cd_value.specs.Identifier.{Fields}
 use Rattle.cd_value.specs.declared.data.DataSet.{DataSet}
 use Rattle.cd_value.specs.declared.data.ValueList.{ValueList}
-use Rattle.cd_value.specs.Identifier.{Fields}
-use Rattle.cd_sock.specs.declared.lines.TheConstants.{LINE_LIMIT}
-use Rattle.cd_sock.specs.declared.command.Command.{Command}
-use Rattle.cd_sock.specs.declared.command.Command.TheVariants as commands
-use Rattle.cd_sock.specs.declared.fault.LineFault.{LineFault}
-use Rattle.cd_sock.specs.Faults.{line_fault}
-use Rattle.cd_sock.specs.Values.{Reading}
-use Rattle.cd_sock.proofs.Fits.{Stands, line_stands}
-use Rattle.cd_sock.specs.Meaning.{Request, Blank, PutVal, GetVal, ListVal, IsSameButTimes, at_moment, command_at, is_blank_byte, is_blank_line, list_at, meaning, request_of, request_of_text, without_return, without_times}
+use Rattle.std.proofs.Common.{Bool, Err, List, Ok, Option, Result, [], ap, length, map, refl, subst, sym, true, ℕ, ◌∙◌, ◌∷◌, ◌≡◌}
+use Rattle.std.proofs.lemmas.Bool.{and_parts}
+use Rattle.std.specs.List.{list_all}
+use Rattle.std.specs.Prelude.{IfOk, IsOkAnd, IsTrue, nat_le, unwrap_or, ◌↔◌}
 
 -- ---- the moment and the global interval change only times and intervals
 

@@ -1,31 +1,31 @@
 -- What a line means, read step by step.
-use Rattle.std.proofs.Common.{◌≡◌, ℕ, Bool, true, false, ◌&&◌, cond, List, [], ◌∷◌, map, length, Option, Some, None, Result, Ok, Err, refl, sym, ap, ◌∙◌}
-use Rattle.std.specs.Prelude.{◌==◌, ok_or, unwrap_or, IsUtf8}
-use Rattle.std.specs.Str.{is_utf8}
-use Rattle.std.specs.List.{list_all}
-use Rattle.std.proofs.lemmas.Simd.{map-map}
-use Rattle.std.proofs.lemmas.Str.{is_utf8-from_IsUtf8, IsUtf8-from_is_utf8}
-use Rattle.std.proofs.lemmas.Bool.{false_from_ne_true}
-use Rattle.cd_reading.specs.First.{◌>>=◌, unless}
+use Rattle.cd_reading.specs.First.{unless, ◌>>=◌}
 use Rattle.cd_reading.specs.Gives.{Refuses}
-use Rattle.cd_text.specs.declared.word.Word.{Word}
-use Rattle.cd_text.specs.declared.word.WordFault.{WordFault}
-use Rattle.cd_text.specs.declared.word.WordFault.TheVariants.{Unterminated, Memory}
+use Rattle.cd_sock.specs.Arguments.{last_interval}
+use Rattle.cd_sock.specs.Faults.{line_fault, of_words, with_fault}
+use Rattle.cd_sock.specs.Meaning.{PutVal, Request, at_moment, command_at, has_interval, interval_in, is_blank_byte, is_interval, list_at, lists_or_fault, put_known, put_parts, request_of_text, request_of_words, value_fault}
+use Rattle.cd_sock.specs.Values.{has_count, has_time, has_values, is_whole, reading}
+use Rattle.cd_sock.specs.declared.command.Command.TheVariants as commands
+use Rattle.cd_sock.specs.declared.command.Command.{Command}
+use Rattle.cd_sock.specs.declared.fault.LineFault.TheVariants.{BadOption, BadTime, BadValue, NotUtf8, UnknownType, WrongNumberOfValues}
+use Rattle.cd_sock.specs.declared.fault.LineFault.{LineFault}
 use Rattle.cd_text.specs.Quoting as quoting
 use Rattle.cd_text.specs.Quoting.{words_of}
+use Rattle.cd_text.specs.declared.word.Word.{Word}
+use Rattle.cd_text.specs.declared.word.WordFault.TheVariants.{Memory, Unterminated}
+use Rattle.cd_text.specs.declared.word.WordFault.{WordFault}
 use Rattle.cd_types.specs.Types.{set_named}
 use Rattle.cd_value.specs.Identifier.{Fields, read_identifier}
 use Rattle.cd_value.specs.declared.data.DataSet.{DataSet}
 use Rattle.cd_value.specs.declared.data.DataSource.{DataSource}
 use Rattle.cd_value.specs.declared.data.ValueList.{ValueList}
-use Rattle.cd_sock.specs.declared.command.Command.{Command}
-use Rattle.cd_sock.specs.declared.command.Command.TheVariants as commands
-use Rattle.cd_sock.specs.declared.fault.LineFault.{LineFault}
-use Rattle.cd_sock.specs.declared.fault.LineFault.TheVariants.{NotUtf8, UnknownType, BadOption, BadTime, WrongNumberOfValues, BadValue}
-use Rattle.cd_sock.specs.Arguments.{last_interval}
-use Rattle.cd_sock.specs.Faults.{line_fault, of_words, with_fault}
-use Rattle.cd_sock.specs.Values.{has_count, has_time, has_values, is_whole, reading}
-use Rattle.cd_sock.specs.Meaning.{Request, PutVal, at_moment, command_at, has_interval, interval_in, is_blank_byte, is_interval, list_at, lists_or_fault, put_known, put_parts, request_of_text, request_of_words, value_fault}
+use Rattle.std.proofs.Common.{Bool, Err, List, None, Ok, Option, Result, Some, [], ap, cond, false, length, map, refl, sym, true, ℕ, ◌&&◌, ◌∙◌, ◌∷◌, ◌≡◌}
+use Rattle.std.proofs.lemmas.Bool.{false_from_ne_true}
+use Rattle.std.proofs.lemmas.Simd.{map-map}
+use Rattle.std.proofs.lemmas.Str.{IsUtf8-from_is_utf8, is_utf8-from_IsUtf8}
+use Rattle.std.specs.List.{list_all}
+use Rattle.std.specs.Prelude.{IsUtf8, ok_or, unwrap_or, ◌==◌}
+use Rattle.std.specs.Str.{is_utf8}
 
 -- ---- faults that go on
 

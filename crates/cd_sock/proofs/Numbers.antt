@@ -1,12 +1,12 @@
 -- What `parse` gives for the numbers of value words.
-use Rattle.std.proofs.Common.{◌≡◌, ℕ, ◌^◌, ◌<◌, ◌≤◌, ℤ, pos, neg_ℤ, Bool, true, false, ◌&&◌, cond, nat_lt, List, length, drop, get_or, Option, Some, None, Result, Ok, Err, refl, sym, ap, ◌∙◌, rules}
+use Rattle.cd_sock.specs.Values.{change_of, count_of, fits_64_bits, is_numeral}
+use Rattle.cd_text.specs.Digits.{are_digits}
+use Rattle.std.proofs.Common.{Bool, Err, List, None, Ok, Option, Result, Some, ap, cond, drop, false, get_or, length, nat_lt, neg_ℤ, pos, refl, rules, sym, true, ℕ, ℤ, ◌&&◌, ◌<◌, ◌^◌, ◌∙◌, ◌≡◌, ◌≤◌}
+use Rattle.std.proofs.lemmas.Bool.{and_from, and_parts, cond-false, cond-true, eqb-false, eqb-true, false_from_ne_true, le-leb, leb-true, lt-ltb, ltb-true}
+use Rattle.std.proofs.lemmas.Str.Parse.{IsNumeralModel, numerals_by_value, parse_plain, parse_signed_minus, parse_signed_plain, parse_signed_plus}
 use Rattle.std.specs.Prelude.{nat_le, slice_index, ◌==◌}
 use Rattle.std.specs.Result.{OkIff, result_ok}
-use Rattle.std.specs.Str.Parse.{ParsesUnsigned, ParsesSigned, digits_value, starts_with_minus, without_leading_sign}
-use Rattle.std.proofs.lemmas.Bool.{false_from_ne_true, cond-true, cond-false, and_parts, and_from, ltb-true, lt-ltb, leb-true, le-leb, eqb-true, eqb-false}
-use Rattle.std.proofs.lemmas.Str.Parse.{IsNumeralModel, numerals_by_value, parse_plain, parse_signed_minus, parse_signed_plus, parse_signed_plain}
-use Rattle.cd_text.specs.Digits.{are_digits}
-use Rattle.cd_sock.specs.Values.{is_numeral, count_of, fits_64_bits, change_of}
+use Rattle.std.specs.Str.Parse.{ParsesSigned, ParsesUnsigned, digits_value, starts_with_minus, without_leading_sign}
 use mir.Syntax.{w64}
 
 -- a result that is Ok exactly where a test holds

@@ -1,16 +1,16 @@
 -- Lines of a stream that comes in pieces.
-use Rattle.std.proofs.Common.{◌≡◌, ℕ, suc, zero, ◌+◌, ◌≤◌, ◌<◌, List, [], ◌∷◌, ◌++◌, length, take, drop, get_or, map, Bool, true, false, Option, Some, None, cond, refl, sym, ap, ◌∙◌, append_assoc, subst, arith, length-append, length-take, add-one, add_comm, inl, inr}
-use Rattle.std.proofs.lemmas.List.{append-nil, take_all, take-append-drop, get_or-take, map-append}
-use Rattle.std.proofs.lemmas.List.Splits.{slice_split_none, slice_split_at, length-slice_split}
-use Rattle.std.proofs.lemmas.List.Quantifiers.{position-Some}
-use Rattle.std.proofs.lemmas.List.Sums.{fails_before_first}
-use Rattle.std.proofs.lemmas.Bool.{cases_lt, lt-ltb, le-ltb, cond-true, cond-false, eqb-true, ltb-false}
-use Rattle.std.proofs.Math.Seq.{take-append-add, take-suc}
-use Rattle.std.specs.List.{concat, slice_split, onto_first, position, position_or_len}
-use Rattle.std.specs.Option.{option_to_list}
 use Rattle.cd_sock.proofs.AllOrNone.{none_cond, some_cond}
-use Rattle.cd_sock.specs.declared.lines.TheConstants.{LINE_LIMIT, HELD_LIMIT}
-use Rattle.cd_sock.specs.Lines.{is_newline, but_last, last_part, whole_lines, unfinished, if_not_empty, lines, Cut, cut, cut_lines, IsInLine, IsHeld, BeginsWith, HasCut, through_newline, Takes, Finishes, TakesAll, none, used_up, takes}
+use Rattle.cd_sock.specs.Lines.{BeginsWith, Cut, Finishes, HasCut, IsInLine, IsUnfinished, Takes, TakesAll, but_last, cut, cut_lines, if_not_empty, is_newline, last_part, lines, none, takes, through_newline, unfinished, used_up, whole_lines}
+use Rattle.cd_sock.specs.declared.lines.TheConstants.{HELD_LIMIT, LINE_LIMIT}
+use Rattle.std.proofs.Common.{Bool, List, None, Option, Some, [], add-one, add_comm, ap, append_assoc, arith, cond, drop, false, get_or, inl, inr, length, length-append, length-take, map, refl, subst, suc, sym, take, true, zero, ℕ, ◌++◌, ◌+◌, ◌<◌, ◌∙◌, ◌∷◌, ◌≡◌, ◌≤◌}
+use Rattle.std.proofs.Math.Seq.{take-append-add, take-suc}
+use Rattle.std.proofs.lemmas.Bool.{cases_lt, cond-false, cond-true, eqb-true, le-ltb, lt-ltb, ltb-false}
+use Rattle.std.proofs.lemmas.List.Quantifiers.{position-Some}
+use Rattle.std.proofs.lemmas.List.Splits.{length-slice_split, slice_split_at, slice_split_none}
+use Rattle.std.proofs.lemmas.List.Sums.{fails_before_first}
+use Rattle.std.proofs.lemmas.List.{append-nil, get_or-take, map-append, take-append-drop, take_all}
+use Rattle.std.specs.List.{concat, onto_first, position, position_or_len, slice_split}
+use Rattle.std.specs.Option.{option_to_list}
 
 -- ---- bytes of one line
 
@@ -229,8 +229,8 @@ piece_in_line piece e = (no_place piece (sym e)).1
 
 -- ---- what a cutter holds
 
-pub held_more : (held piece now : List ℕ) → IsHeld held → None ≡ position is_newline piece → now ≡ take HELD_LIMIT (held ++ piece) → IsHeld now
-held_more held piece now h e is = subst IsHeld (sym is) (record {
+pub held_more : (held piece now : List ℕ) → IsUnfinished held → None ≡ position is_newline piece → now ≡ take HELD_LIMIT (held ++ piece) → IsUnfinished now
+held_more held piece now h e is = subst IsUnfinished (sym is) (record {
   in_line = take_in HELD_LIMIT (held ++ piece) (append_in held piece h.in_line (piece_in_line piece e));
   few = omega (arith, length-take HELD_LIMIT (held ++ piece));
 })

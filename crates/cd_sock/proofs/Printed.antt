@@ -1,9 +1,9 @@
 -- Replies, printed line by line.
-use Rattle.std.proofs.Common.{◌≡◌, ℕ, Bool, cond, List, [], ◌∷◌, ◌++◌, sym, ap, ◌∙◌, append_assoc}
-use Rattle.std.specs.Prelude.{codes}
-use Rattle.std.specs.Fmt.{decimal}
+use Rattle.cd_sock.specs.Replies.{flushed_line, values_found, with_newline}
+use Rattle.std.proofs.Common.{Bool, List, [], ap, append_assoc, cond, sym, ℕ, ◌++◌, ◌∙◌, ◌∷◌, ◌≡◌}
 use Rattle.std.proofs.lemmas.Bool.{eq-eqb, ne_eqb}
-use Rattle.cd_sock.specs.Replies.{flushed_line, with_newline, values_found}
+use Rattle.std.specs.Fmt.{decimal}
+use Rattle.std.specs.Prelude.{codes}
 
 -- the first line of one value, and of another number of values
 pub one_value : (n : ℕ) → n ≡ 1 → decimal n ++ codes " Value found\n" ≡ values_found n

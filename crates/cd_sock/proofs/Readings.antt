@@ -1,20 +1,20 @@
 -- Value words, read value by value.
-use Rattle.std.proofs.Common.{◌≡◌, ℕ, suc, ◌+◌, ◌<◌, ◌≤◌, Bool, true, false, ◌&&◌, ◌||◌, cond, List, [], ◌∷◌, ◌++◌, length, drop, get_or, Option, Some, None, Bor, option_copied, inl, inr, Result, Ok, Err, refl, sym, ap, ◌∙◌, arith, append_assoc, add-one, drop-cons}
-use Rattle.std.specs.Prelude.{◌==◌, is_some, is_ok, unwrap_or}
-use Rattle.std.specs.Result.{result_ok}
-use Rattle.std.specs.List.{list_all, filter_map, cons_option, zip, slice_split}
-use Rattle.std.proofs.lemmas.List.{append-nil, drop_all}
-use Rattle.std.proofs.lemmas.List.Splits.{length-slice_split}
-use Rattle.std.proofs.lemmas.Bool.{and_right, cases_eq, cond-true, cond-false, eq-eqb, ne_eqb}
+use Rattle.cd_sock.proofs.AllOrNone.{none_cond, some_cond}
+use Rattle.cd_sock.specs.Meaning.{list_at}
+use Rattle.cd_sock.specs.Values.{has_count, has_time, has_values, is_colon, is_now, is_whole, reading, texts_in, time_at, time_text, value_at, value_of, value_texts, values_in}
+use Rattle.cd_text.specs.Time.{time_of}
+use Rattle.cd_text.specs.declared.word.Word.{Word}
+use Rattle.cd_value.specs.Identifier.{Fields}
 use Rattle.cd_value.specs.declared.data.DataSource.{DataSource}
 use Rattle.cd_value.specs.declared.data.Value.{Value}
 use Rattle.cd_value.specs.declared.data.ValueList.{ValueList}
-use Rattle.cd_value.specs.Identifier.{Fields}
-use Rattle.cd_text.specs.declared.word.Word.{Word}
-use Rattle.cd_text.specs.Time.{time_of}
-use Rattle.cd_sock.specs.Values.{has_count, has_time, has_values, is_colon, is_now, is_whole, reading, texts_in, time_at, time_text, value_of, value_at, value_texts, values_in}
-use Rattle.cd_sock.specs.Meaning.{list_at}
-use Rattle.cd_sock.proofs.AllOrNone.{none_cond, some_cond}
+use Rattle.std.proofs.Common.{Bool, Bor, Err, List, None, Ok, Option, Result, Some, [], add-one, ap, append_assoc, arith, cond, drop, drop-cons, false, get_or, inl, inr, length, option_copied, refl, suc, sym, true, ℕ, ◌&&◌, ◌++◌, ◌+◌, ◌<◌, ◌||◌, ◌∙◌, ◌∷◌, ◌≡◌, ◌≤◌}
+use Rattle.std.proofs.lemmas.Bool.{and_right, cases_eq, cond-false, cond-true, eq-eqb, ne_eqb}
+use Rattle.std.proofs.lemmas.List.Splits.{length-slice_split}
+use Rattle.std.proofs.lemmas.List.{append-nil, drop_all}
+use Rattle.std.specs.List.{cons_option, filter_map, list_all, slice_split, zip}
+use Rattle.std.specs.Prelude.{is_ok, is_some, unwrap_or, ◌==◌}
+use Rattle.std.specs.Result.{result_ok}
 
 abbrev onto_value : Option Value → Option (List Value) → Option (List Value)
 onto_value None values = None

@@ -1,10 +1,10 @@
 -- The words of a command.
-use Rattle.std.specs.Prelude.{ℕ, Bool, not, ◌==◌, List, drop, if◌then◌else◌, Option, Some, None, option_and_then, slice_get, ◌-◌, length}
-use Rattle.std.specs.List.{list_any, before_first, after_first, position_or_len}
+use Rattle.cd_text.specs.Time.{time_of}
+use Rattle.cd_text.specs.declared.word.Word.{Word}
+use Rattle.std.specs.List.{after_first, before_first, list_any, position_or_len}
+use Rattle.std.specs.Prelude.{Bool, List, None, Option, Some, drop, if◌then◌else◌, length, not, option_and_then, slice_get, ℕ, ◌-◌, ◌==◌}
 use Rattle.std.specs.Result.{result_ok}
 use Rattle.std.specs.Str.{str_eq_ignore_ascii_case}
-use Rattle.cd_text.specs.declared.word.Word.{Word}
-use Rattle.cd_text.specs.Time.{time_of}
 
 -- the text is the name, whatever the case of its letters
 abbrev pub is_keyword : List ℕ → List ℕ → Bool

@@ -1,11 +1,11 @@
 -- The faults of a line that those of its words and of its identifier are.
-use Rattle.std.specs.Prelude.{Option, Some, None, Result, Ok, Err}
-use Rattle.cd_text.specs.declared.word.WordFault.{WordFault}
-use Rattle.cd_text.specs.declared.word.WordFault.TheVariants as words
-use Rattle.cd_value.specs.declared.identifier.IdFault.{IdFault}
-use Rattle.cd_value.specs.declared.identifier.IdFault.TheVariants as identifiers
+use Rattle.cd_sock.specs.declared.fault.LineFault.TheVariants.{BadIdentifier, Memory, UnterminatedQuote}
 use Rattle.cd_sock.specs.declared.fault.LineFault.{LineFault}
-use Rattle.cd_sock.specs.declared.fault.LineFault.TheVariants.{UnterminatedQuote, BadIdentifier, Memory}
+use Rattle.cd_text.specs.declared.word.WordFault.TheVariants as words
+use Rattle.cd_text.specs.declared.word.WordFault.{WordFault}
+use Rattle.cd_value.specs.declared.identifier.IdFault.TheVariants as identifiers
+use Rattle.cd_value.specs.declared.identifier.IdFault.{IdFault}
+use Rattle.std.specs.Prelude.{Err, None, Ok, Option, Result, Some}
 
 abbrev pub of_words : WordFault → LineFault
 of_words words.Unterminated = UnterminatedQuote

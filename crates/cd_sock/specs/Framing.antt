@@ -1,10 +1,10 @@
 -- A reply as its client reads it, line by line, as in collectd-unixsock(5).
-use Rattle.std.specs.Prelude.{◌≡◌, ℕ, ℤ, pos, negsuc, Bool, not, ◌==◌, List, [], ◌∷◌, length, IsTrue}
-use Rattle.std.specs.List.{list_all, list_any, before_first}
-use Rattle.std.specs.Str.Parse.{IsNumeral, signed_digits_value, without_leading_sign}
 use Rattle.cd_sock.specs.Lines.{is_newline, lines, unfinished}
-use Rattle.cd_sock.specs.declared.reply.Reply.{Reply}
 use Rattle.cd_sock.specs.declared.reply.Reply.TheVariants.{Got, Listed}
+use Rattle.cd_sock.specs.declared.reply.Reply.{Reply}
+use Rattle.std.specs.List.{before_first, list_all, list_any}
+use Rattle.std.specs.Prelude.{Bool, IsTrue, List, [], length, negsuc, not, pos, ℕ, ℤ, ◌==◌, ◌∷◌, ◌≡◌}
+use Rattle.std.specs.Str.Parse.{IsNumeral, signed_digits_value, without_leading_sign}
 
 abbrev pub is_space : ℕ → Bool
 is_space byte = byte == 32

@@ -1,11 +1,11 @@
 -- The lines of a stream of bytes, and what a cutter does with the pieces of one.
-use Rattle.std.specs.Prelude.{◌≡◌, ℕ, ◌+◌, ◌≤◌, ◌==◌, min, List, [], ◌∷◌, ◌++◌, map, length, take, drop, Option, Some, None, Bool, false, nat_lt, if◌then◌else◌}
+use Rattle.cd_sock.specs.declared.lines.Line.TheVariants.{TooLong, Whole}
+use Rattle.cd_sock.specs.declared.lines.Line.{Line}
+use Rattle.cd_sock.specs.declared.lines.TheConstants.{HELD_LIMIT, LINE_LIMIT}
 use Rattle.std.specs.Cow.{cow_slice_items}
 use Rattle.std.specs.List.{All, position_or_len, slice_split}
 use Rattle.std.specs.Option.{option_to_list}
-use Rattle.cd_sock.specs.declared.lines.TheConstants.{LINE_LIMIT, HELD_LIMIT}
-use Rattle.cd_sock.specs.declared.lines.Line.{Line}
-use Rattle.cd_sock.specs.declared.lines.Line.TheVariants.{Whole, TooLong}
+use Rattle.std.specs.Prelude.{Bool, List, None, Option, Some, [], drop, false, if◌then◌else◌, length, map, min, nat_lt, take, ℕ, ◌++◌, ◌+◌, ◌==◌, ◌∷◌, ◌≡◌, ◌≤◌}
 
 -- ---- the lines of all bytes
 
@@ -60,7 +60,7 @@ abbrev pub IsInLine : List ℕ → Type 0
 IsInLine bytes = All (λ byte. is_newline byte ≡ false) bytes
 
 -- what a cutter keeps since the last newline: as many bytes as tell whether the line is too long
-pub record IsHeld (bytes : List ℕ) : Type 0 where
+pub record IsUnfinished (bytes : List ℕ) : Type 0 where
   pub in_line : IsInLine bytes
   pub few : length bytes ≤ HELD_LIMIT
 

@@ -1,25 +1,25 @@
 -- What a line means, as in collectd-unixsock(5).
-use Rattle.std.specs.Prelude.{◌≡◌, ℕ, ◌-◌, Bool, ◌&&◌, ◌||◌, ◌==◌, nat_le, List, [], ◌∷◌, length, take, map, codes, slice_index, Option, Some, None, unwrap_or, ok_or, Result, Ok, Err, if◌then◌else◌, IsTrue}
-use Rattle.std.specs.List.{list_all}
-use Rattle.std.specs.Str.{is_utf8}
-use Rattle.cd_reading.specs.First.{◌>>=◌, unless}
+use Rattle.cd_reading.specs.First.{unless, ◌>>=◌}
 use Rattle.cd_reading.specs.Gives.{Gives}
-use Rattle.cd_text.specs.declared.word.Word.{Word}
+use Rattle.cd_sock.specs.Arguments.{argument, from_first_plain, interval_of, is_keyword, key, last_interval, leading_options}
+use Rattle.cd_sock.specs.Faults.{line_fault, need, of_identifier, of_words, with_fault}
+use Rattle.cd_sock.specs.Values.{Reading, has_count, has_time, has_values, is_whole, reading}
+use Rattle.cd_sock.specs.declared.command.Command.TheVariants as commands
+use Rattle.cd_sock.specs.declared.command.Command.{Command}
+use Rattle.cd_sock.specs.declared.fault.LineFault.TheVariants.{BadOption, BadTime, BadValue, LineTooLong, MissingArgument, NotUtf8, UnknownCommand, UnknownType, WrongNumberOfValues}
+use Rattle.cd_sock.specs.declared.fault.LineFault.{LineFault}
+use Rattle.cd_sock.specs.declared.lines.TheConstants.{LINE_LIMIT}
 use Rattle.cd_text.specs.Quoting.{words_of}
-use Rattle.cd_types.specs.Types.{set_named, fits}
+use Rattle.cd_text.specs.declared.word.Word.{Word}
+use Rattle.cd_types.specs.Types.{fits, set_named}
 use Rattle.cd_value.specs.Identifier.{Fields, read_identifier}
 use Rattle.cd_value.specs.declared.data.DataSet.{DataSet}
 use Rattle.cd_value.specs.declared.data.DataSource.{DataSource}
 use Rattle.cd_value.specs.declared.data.ValueList.{ValueList}
-use Rattle.cd_sock.specs.declared.command.Command.{Command}
-use Rattle.cd_sock.specs.declared.command.Command.TheVariants as commands
-use Rattle.cd_sock.specs.declared.fault.LineFault.{LineFault}
-use Rattle.cd_sock.specs.declared.fault.LineFault.TheVariants.{LineTooLong, NotUtf8, UnknownCommand, MissingArgument, UnknownType, BadOption, BadTime, WrongNumberOfValues, BadValue}
-use Rattle.cd_sock.specs.declared.lines.TheConstants.{LINE_LIMIT}
-use Rattle.cd_sock.specs.Arguments.{is_keyword, key, argument, leading_options, from_first_plain, interval_of, last_interval}
-use Rattle.cd_sock.specs.Values.{has_time, has_count, has_values, is_whole, Reading, reading}
-use Rattle.cd_sock.specs.Faults.{line_fault, of_words, of_identifier, with_fault, need}
+use Rattle.std.specs.List.{list_all}
 use Rattle.std.specs.Option.{is_some}
+use Rattle.std.specs.Prelude.{Bool, Err, IsTrue, List, None, Ok, Option, Result, Some, [], codes, if◌then◌else◌, length, map, nat_le, ok_or, slice_index, take, unwrap_or, ℕ, ◌&&◌, ◌-◌, ◌==◌, ◌||◌, ◌∷◌, ◌≡◌}
+use Rattle.std.specs.Str.{is_utf8}
 
 -- what a line asks for, whenever it is read: nothing, or a command, in which a time may be the
 -- moment of reading and an interval the global one

@@ -1,14 +1,14 @@
 -- The texts of replies.
-use Rattle.std.specs.Prelude.{ℕ, ◌/◌, ◌==◌, if◌then◌else◌, List, [], ◌∷◌, ◌++◌, length, codes, Option, Some, None}
-use Rattle.std.specs.List.{flat_map}
-use Rattle.std.specs.Fmt.{decimal}
-use Rattle.cd_value.specs.declared.numbers.TheConstants.{SECOND}
-use Rattle.cd_value.specs.declared.data.Rate.{Rate}
-use Rattle.cd_value.specs.Print.{rate_text}
-use Rattle.cd_sock.specs.declared.fault.LineFault.{LineFault}
 use Rattle.cd_sock.specs.declared.fault.LineFault.TheVariants as faults
-use Rattle.cd_sock.specs.declared.reply.Reply.{Reply}
+use Rattle.cd_sock.specs.declared.fault.LineFault.{LineFault}
 use Rattle.cd_sock.specs.declared.reply.Reply.TheVariants as replies
+use Rattle.cd_sock.specs.declared.reply.Reply.{Reply}
+use Rattle.cd_value.specs.Print.{rate_text}
+use Rattle.cd_value.specs.declared.data.Rate.{Rate}
+use Rattle.cd_value.specs.declared.numbers.TheConstants.{SECOND}
+use Rattle.std.specs.Fmt.{decimal}
+use Rattle.std.specs.List.{flat_map}
+use Rattle.std.specs.Prelude.{List, None, Option, Some, [], codes, if◌then◌else◌, length, ℕ, ◌++◌, ◌/◌, ◌==◌, ◌∷◌}
 
 -- a text and the end of its line
 abbrev pub with_newline : List ℕ → List ℕ

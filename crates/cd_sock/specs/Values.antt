@@ -1,19 +1,19 @@
 -- The value words of PUTVAL: `time:value[:value] ..`.
-use Rattle.std.specs.Prelude.{ℕ, ◌^◌, ℤ, Bool, ◌&&◌, ◌||◌, ◌==◌, nat_lt, nat_le, List, [], drop, length, codes, Option, Some, None, is_some, is_ok, option_map, if◌then◌else◌}
-use Rattle.std.specs.List.{list_all, zip, filter_map, slice_split, before_first}
-use Rattle.std.specs.Result.{result_ok}
-use Rattle.std.specs.Str.{bytes_eq}
-use Rattle.std.specs.Str.Parse.{digits_value, signed_digits_value, starts_with_minus, without_leading_sign}
-use Rattle.cd_text.specs.declared.word.Word.{Word}
+use Rattle.cd_sock.specs.Arguments.{is_keyword}
 use Rattle.cd_text.specs.Digits.{are_digits}
 use Rattle.cd_text.specs.Number.{number_of}
 use Rattle.cd_text.specs.Time.{time_of}
+use Rattle.cd_text.specs.declared.word.Word.{Word}
 use Rattle.cd_value.specs.declared.data.DataSource.{DataSource}
-use Rattle.cd_value.specs.declared.data.DsType.{DsType}
 use Rattle.cd_value.specs.declared.data.DsType.TheVariants as kinds
+use Rattle.cd_value.specs.declared.data.DsType.{DsType}
+use Rattle.cd_value.specs.declared.data.Value.TheVariants.{Absolute, Counter, Derive, Gauge}
 use Rattle.cd_value.specs.declared.data.Value.{Value}
-use Rattle.cd_value.specs.declared.data.Value.TheVariants.{Counter, Gauge, Derive, Absolute}
-use Rattle.cd_sock.specs.Arguments.{is_keyword}
+use Rattle.std.specs.List.{before_first, filter_map, list_all, slice_split, zip}
+use Rattle.std.specs.Prelude.{Bool, List, None, Option, Some, [], codes, drop, if◌then◌else◌, is_ok, is_some, length, nat_le, nat_lt, option_map, ℕ, ℤ, ◌&&◌, ◌==◌, ◌^◌, ◌||◌}
+use Rattle.std.specs.Result.{result_ok}
+use Rattle.std.specs.Str.Parse.{digits_value, signed_digits_value, starts_with_minus, without_leading_sign}
+use Rattle.std.specs.Str.{bytes_eq}
 
 -- ---- one value
 

@@ -6,7 +6,7 @@ ghost use Rattle.std.specs.List.{after_first, before_first, list_all, position};
 ghost use Rattle.std.specs.Prelude.{◌≡◌};
 
 use crate::LineFault;
-use cd_text::{Word, read_time};
+use cd_text::{LineWord, read_time};
 
 /// Whether the text is the name, whatever the case of its letters.
 pub fn is_keyword(text: &str, name: &str) -> bool
@@ -16,21 +16,21 @@ pub fn is_keyword(text: &str, name: &str) -> bool
 }
 
 /// Whether a word has a key.
-fn has_key(word: &Word) -> bool
+fn has_key(word: &LineWord) -> bool
     ensures { result ≡ has_key word.now }
 {
-    word.text.as_str().bytes().any(|byte| byte == b'=')
+    word.text().bytes().any(|byte| byte == b'=')
 }
 
 /// The place of the first word without a key.
-fn place_of_plain(words: &[Word]) -> Option<usize>
+fn place_of_plain(words: &[LineWord]) -> Option<usize>
     ensures { result ≡ position is_plain words.now }
 {
     words.iter().position(|word| !has_key(word))
 }
 
 /// The words with a key before the first other one, and all from there on.
-pub fn split_options(words: &[Word]) -> (&[Word], &[Word])
+pub fn split_options<'a>(words: &'a [LineWord<'a>]) -> (&'a [LineWord<'a>], &'a [LineWord<'a>])
     ensures options { result.0.now ≡ leading_options words.now }
     ensures others { result.1.now ≡ from_first_plain words.now }
 {
@@ -40,48 +40,55 @@ pub fn split_options(words: &[Word]) -> (&[Word], &[Word])
     }
 }
 
+/// The place of the first `=`.
+fn place_of_equals(text: &[u8]) -> Option<usize>
+    ensures { result ≡ position is_equals text.now }
+{
+    text.iter().position(|byte| *byte == b'=')
+}
+
 /// A text before its first `=`, and what stands after it.
 fn at_equals(text: &str) -> (&str, &str)
     ensures before { result.0.now ≡ before_first is_equals text.now }
     ensures after { result.1.now ≡ after_first is_equals text.now }
 {
-    match text.split_once('=') {
-        Some((key, argument)) => (key, argument),
+    match place_of_equals(text.as_bytes()) {
+        Some(place) => (&text[..place], &text[place + 1..]),
         None => (text, ""),
     }
 }
 
 /// Whether a word is an interval.
-fn is_interval(option: &Word) -> bool
+fn is_interval(option: &LineWord) -> bool
     ensures { result ≡ is_interval option.now }
 {
-    is_keyword(at_equals(option.text.as_str()).0, "interval")
+    is_keyword(at_equals(option.text()).0, "interval")
 }
 
 /// The interval that an option gives, in 2^-30 s.
-fn interval_of(option: &Word) -> Option<u64>
+fn interval_of(option: &LineWord) -> Option<u64>
     ensures { result ≡ interval_of (argument option.now) }
 {
-    match read_time(at_equals(option.text.as_str()).1) {
+    match read_time(at_equals(option.text()).1) {
         Ok(time) if time > 0 => Some(time),
         _ => None,
     }
 }
 
-fn all_intervals(options: &[Word]) -> bool
+fn all_intervals(options: &[LineWord]) -> bool
     ensures { result ≡ list_all is_interval options.now }
 {
     options.iter().all(|option| is_interval(option))
 }
 
-fn all_give_intervals(options: &[Word]) -> bool
+fn all_give_intervals(options: &[LineWord]) -> bool
     ensures { result ≡ list_all has_interval options.now }
 {
     options.iter().all(|option| interval_of(option).is_some())
 }
 
 /// The interval of the last option, and the global one where there is none.
-pub fn read_interval(options: &[Word], global: u64) -> Result<u64, LineFault>
+pub fn read_interval(options: &[LineWord], global: u64) -> Result<u64, LineFault>
     ensures { result ≡ interval_in options.now global }
 {
     if !all_intervals(options) {

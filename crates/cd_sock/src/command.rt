@@ -12,7 +12,7 @@ ghost use Rattle.std.specs.Prelude.{IfErr, IfOk, IsOkAnd, IsTrue, List, ℕ, ◌
 use crate::arguments::{is_keyword, read_interval, split_options};
 use crate::lists::read_lists;
 use crate::{LINE_LIMIT, LineFault};
-use cd_text::{Word, words};
+use cd_text::{LineWord, line_words};
 use cd_types::TypesDb;
 use cd_value::{DataSource, Identifier, Lists};
 use std::alloc::Global;
@@ -64,8 +64,8 @@ fn put_known(
     alloc: Global,
     id: Identifier,
     sources: &[DataSource],
-    options: &[Word],
-    values: &[Word],
+    options: &[LineWord],
+    values: &[LineWord],
     now: u64,
     interval: u64,
 ) -> Result<Command, LineFault>
@@ -83,8 +83,8 @@ fn put_parts(
     alloc: Global,
     types: &TypesDb,
     name: &str,
-    options: &[Word],
-    values: &[Word],
+    options: &[LineWord],
+    values: &[LineWord],
     now: u64,
     interval: u64,
 ) -> Result<Command, LineFault>
@@ -113,7 +113,7 @@ fn put_parts(
 fn put_val(
     alloc: Global,
     types: &TypesDb,
-    arguments: &[Word],
+    arguments: &[LineWord],
     now: u64,
     interval: u64,
 ) -> Result<Command, LineFault>
@@ -123,25 +123,22 @@ fn put_val(
         return Err(LineFault::MissingArgument);
     };
     let (options, values) = split_options(more);
-    put_parts(
-        alloc,
-        types,
-        name.text.as_str(),
-        options,
-        values,
-        now,
-        interval,
-    )
+    put_parts(alloc, types, name.text(), options, values, now, interval)
 }
 
 #[tactic(auto, unfolding(crate::specs::Meaning::get_val))]
-fn get_val(alloc: Global, arguments: &[Word], now: u64, interval: u64) -> Result<Command, LineFault>
+fn get_val(
+    alloc: Global,
+    arguments: &[LineWord],
+    now: u64,
+    interval: u64,
+) -> Result<Command, LineFault>
     ensures { GivesAt now interval result (get_val arguments.now) }
 {
     let Some((name, more)) = arguments.split_first() else {
         return Err(LineFault::MissingArgument);
     };
-    let id = Identifier::read(alloc, name.text.as_str())?;
+    let id = Identifier::read(alloc, name.text())?;
     if !more.is_empty() {
         return Err(LineFault::BadOption);
     }
@@ -149,7 +146,7 @@ fn get_val(alloc: Global, arguments: &[Word], now: u64, interval: u64) -> Result
 }
 
 #[tactic(auto, unfolding(crate::specs::Meaning::list_val))]
-fn list_val(arguments: &[Word]) -> Result<Command, LineFault>
+fn list_val(arguments: &[LineWord]) -> Result<Command, LineFault>
     ensures { (now interval : ℕ) → result ≡ at_moment now interval (list_val arguments.now) }
 {
     if arguments.is_empty() {
@@ -164,7 +161,7 @@ fn list_val(arguments: &[Word]) -> Result<Command, LineFault>
 fn read_words(
     alloc: Global,
     types: &TypesDb,
-    words: &[Word],
+    words: &[LineWord],
     now: u64,
     interval: u64,
 ) -> Result<Command, LineFault>
@@ -173,7 +170,7 @@ fn read_words(
     let Some((name, arguments)) = words.split_first() else {
         return Err(LineFault::UnknownCommand);
     };
-    let name = name.text.as_str();
+    let name = name.text();
     if is_keyword(name, "PUTVAL") {
         put_val(alloc, types, arguments, now, interval)
     } else if is_keyword(name, "GETVAL") {
@@ -202,7 +199,7 @@ fn read_text(
     let Ok(text) = str::from_utf8(text) else {
         return Err(LineFault::NotUtf8);
     };
-    let words = words(alloc, text)?;
+    let words = line_words(alloc, text)?;
     read_words(alloc, types, words.as_slice(), now, interval)
 }
 

@@ -37,13 +37,13 @@ pub struct LineCutter {
 }
 
 impl Model for LineCutter {
-    ghost use Rattle.cd_sock.specs.Lines.{Cut, IsHeld, cut};
+    ghost use Rattle.cd_sock.specs.Lines.{Cut, IsUnfinished, cut};
 
     ghost Value = { Cut };
 
     ghost view = { λ cutter. cut cutter.held.items };
 
-    ghost invariant = { λ cutter. IsHeld cutter.held.items };
+    ghost invariant = { λ cutter. IsUnfinished cutter.held.items };
 }
 
 /// The place of the first newline.

@@ -8,7 +8,7 @@ ghost use Rattle.std.specs.Prelude.{IfOk, option_map, ◌≡◌};
 
 use crate::LineFault;
 use crate::values::{has_count, has_time, read_list};
-use cd_text::Word;
+use cd_text::LineWord;
 use cd_value::{DataSource, Identifier, Lists, Memory, Sequence, TryCopy, ValueList};
 use std::alloc::Global;
 
@@ -16,7 +16,7 @@ use std::alloc::Global;
 fn earlier_lists(
     alloc: Global,
     sources: &[DataSource],
-    words: &[Word],
+    words: &[LineWord],
     id: &Identifier,
     now: u64,
     interval: u64,
@@ -40,7 +40,7 @@ fn earlier_lists(
 fn try_lists(
     alloc: Global,
     sources: &[DataSource],
-    words: &[Word],
+    words: &[LineWord],
     id: Identifier,
     now: u64,
     interval: u64,
@@ -60,20 +60,20 @@ fn try_lists(
     Ok(Some(Sequence::from_vec(lists)))
 }
 
-fn all_have_times(words: &[Word]) -> bool
+fn all_have_times(words: &[LineWord]) -> bool
     ensures { result ≡ list_all has_time words.now }
 {
     words.iter().all(|word| has_time(word))
 }
 
-fn all_have_counts(sources: &[DataSource], words: &[Word]) -> bool
+fn all_have_counts(sources: &[DataSource], words: &[LineWord]) -> bool
     ensures { result ≡ list_all (has_count sources.now) words.now }
 {
     words.iter().all(|word| has_count(sources, word))
 }
 
 /// The first fault of value words, one of which has one.
-fn value_fault(sources: &[DataSource], words: &[Word]) -> LineFault
+fn value_fault(sources: &[DataSource], words: &[LineWord]) -> LineFault
     ensures { result ≡ value_fault sources.now words.now }
 {
     if !all_have_times(words) {
@@ -89,7 +89,7 @@ fn value_fault(sources: &[DataSource], words: &[Word]) -> LineFault
 pub fn read_lists(
     alloc: Global,
     sources: &[DataSource],
-    words: &[Word],
+    words: &[LineWord],
     id: Identifier,
     now: u64,
     interval: u64,

@@ -2,12 +2,12 @@
 ghost use Rattle.cd_sock.specs.Meaning.{list_of};
 ghost use Rattle.cd_sock.specs.Values.{change_of, count_of, has_count, has_time, is_colon, is_unknown, is_whole};
 ghost use Rattle.cd_sock.specs.Values.{level_of, texts_in, time_at, value_of, values_in};
-ghost use Rattle.std.specs.List.{before_first, slice_split};
+ghost use Rattle.std.specs.List.{before_first, position, slice_split};
 ghost use Rattle.std.specs.Prelude.{IfOk, None, Some, count_by, if◌then◌else◌, option_copied, slice_index, ◌==◌, ◌∷◌};
 ghost use Rattle.std.specs.Prelude.{◌≡◌};
 
 use crate::arguments::is_keyword;
-use cd_text::{Word, read_millionths, read_time};
+use cd_text::{LineWord, read_millionths, read_time};
 use cd_value::{DataSource, DsType, Identifier, Memory, Sequence, Value, ValueList, Values};
 use std::alloc::Global;
 
@@ -66,14 +66,21 @@ fn read_value(kind: DsType, text: &str) -> Option<Value>
     }
 }
 
+/// The place of the first colon.
+fn place_of_colon(text: &[u8]) -> Option<usize>
+    ensures { result ≡ position is_colon text.now }
+{
+    text.iter().position(|byte| *byte == b':')
+}
+
 /// A text before its first colon, and what stands after it where there is one.
 fn at_colon(text: &str) -> (&str, Option<&str>)
     ensures front { result.0.now ≡ before_first is_colon text.now }
     ensures texts { slice_split is_colon text.now
         ≡ result.0.now ∷ texts_in (option_copied result.1) }
 {
-    match text.split_once(':') {
-        Some((front, rest)) => (front, Some(rest)),
+    match place_of_colon(text.as_bytes()) {
+        Some(place) => (&text[..place], Some(&text[place + 1..])),
         None => (text, None),
     }
 }
@@ -121,7 +128,7 @@ fn read_values(
 pub fn read_list(
     alloc: Global,
     sources: &[DataSource],
-    word: &Word,
+    word: &LineWord,
     id: Identifier,
     now: u64,
     interval: u64,
@@ -129,7 +136,7 @@ pub fn read_list(
     ensures { IfOk result (λ list. list ≡ (if is_whole sources.now word.now
         then Some (list_of sources.now id now interval word.now) else None)) }
 {
-    let (time, rest) = at_colon(word.text.as_str());
+    let (time, rest) = at_colon(word.text());
     let Some(time) = read_moment(time, now) else {
         return Ok(None);
     };
@@ -145,10 +152,10 @@ pub fn read_list(
 }
 
 /// Whether the time of a value word is one.
-pub fn has_time(word: &Word) -> bool
+pub fn has_time(word: &LineWord) -> bool
     ensures { result ≡ has_time word.now }
 {
-    read_moment(at_colon(word.text.as_str()).0, 0).is_some()
+    read_moment(at_colon(word.text()).0, 0).is_some()
 }
 
 fn number_of_colons(text: &str) -> usize
@@ -158,8 +165,8 @@ fn number_of_colons(text: &str) -> usize
 }
 
 /// Whether a value word has a value for each source.
-pub fn has_count(sources: &[DataSource], word: &Word) -> bool
+pub fn has_count(sources: &[DataSource], word: &LineWord) -> bool
     ensures { result ≡ has_count sources.now word.now }
 {
-    number_of_colons(word.text.as_str()) == sources.len()
+    number_of_colons(word.text()) == sources.len()
 }

@@ -1,6 +1,9 @@
+pub mod Cuts
 pub mod DigitRuns
+pub mod OpenWords
 pub mod Places
 pub mod Powers
 pub mod Quotes
 pub mod Runs
 pub mod Seconds
+pub mod Slices

@@ -1,11 +1,12 @@
 -- The first place of a byte, and the text before and after it.
-use Rattle.std.proofs.Common.{◌≡◌, ℕ, ◌+◌, ◌-◌, ◌<◌, ◌≤◌, Bool, List, length, take, drop, Some, None, sym, ap, ◌∙◌, arith}
-use Rattle.std.specs.List.{position, position_or_len, before_first, after_first}
-use Rattle.std.specs.Prelude.{nat_lt}
 use Rattle.cd_text.specs.Digits.{after_place as behind_place}
-use Rattle.std.proofs.lemmas.Option.{cond_some}
-use Rattle.std.proofs.lemmas.List.{take_all, drop_all, length-drop}
+use Rattle.std.proofs.Common.{Bool, List, None, Some, ap, arith, drop, length, sym, take, ℕ, ◌+◌, ◌-◌, ◌<◌, ◌∙◌, ◌≡◌, ◌≤◌}
 use Rattle.std.proofs.lemmas.Grind.{common_steps}
+use Rattle.std.proofs.lemmas.List.Sums.{prefix_len-le-length}
+use Rattle.std.proofs.lemmas.List.{drop_all, length-drop, take_all}
+use Rattle.std.proofs.lemmas.Option.{cond_some}
+use Rattle.std.specs.List.{after_first, before_first, position, position_or_len}
+use Rattle.std.specs.Prelude.{nat_lt, not}
 
 pub position_is : (p : ℕ → Bool) (xs : List ℕ) (i : ℕ) → Some i ≡ position p xs → (position_or_len p xs ≡ i) × (i < length xs)
 position_is p xs i e = let s = cond_some (nat_lt (position_or_len p xs) (length xs)) (position_or_len p xs) i (sym e) in grind (arith, common_steps, s)
@@ -32,5 +33,13 @@ after_none p xs e =
 
 pub rest_place : (p : ℕ → Bool) (xs : List ℕ) (i : ℕ) → Some i ≡ position p xs → Some (take (length xs - (i + 1)) (drop (i + 1) xs)) ≡ behind_place xs (position p xs)
 rest_place p xs i e = rw (← e) (ap (λ (ys : List ℕ). Some ys) (take_all (length xs - (i + 1)) (drop (i + 1) xs) (omega (arith, length-drop (i + 1) xs))))
+
+pub some_place : (p : ℕ → Bool) (xs : List ℕ) (i : ℕ) → Some i ≡ position p xs → i ≡ position_or_len p xs
+some_place p xs i e = sym (position_is p xs i e).0
+
+pub none_place : (p : ℕ → Bool) (xs : List ℕ) → None ≡ position p xs → length xs ≡ position_or_len p xs
+none_place p xs e = omega (arith, position_none p xs e, prefix_len-le-length (λ x. not (p x)) xs)
+
+pub ruleset place_or_len = (some_place, none_place)
 
 pub ruleset places = (before_place, after_place, before_none, after_none, rest_place)

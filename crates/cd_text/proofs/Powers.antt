@@ -1,9 +1,9 @@
 -- A fraction with powers of ten, in millionths.
-use Rattle.std.proofs.Common.{◌≡◌, ℕ, ◌+◌, ◌-◌, ◌*◌, ◌/◌, ◌^◌, ◌<◌, ◌≤◌, inl, inr, Some, None, refl, sym, ap, ◌∙◌, arith}
-use Rattle.std.proofs.Math.Nat.{pow-le-pow_right, mul_assoc, mul-le-mul_right, mul-lt-mul_of_pos_right, mul-div_cancel, mul-div-mul_right, div-eq_of_lt, div-mul-le_self, mul-le-mul_left, div-le_of_le-mul}
+use Rattle.cd_text.specs.Millionths.{bounded_millionths, scaled_millionths}
+use Rattle.std.proofs.Common.{None, Some, ap, arith, inl, inr, refl, sym, ℕ, ◌*◌, ◌+◌, ◌-◌, ◌/◌, ◌<◌, ◌^◌, ◌∙◌, ◌≡◌, ◌≤◌}
+use Rattle.std.proofs.Math.Nat.{div-eq_of_lt, div-le_of_le-mul, div-mul-le_self, mul-div-mul_right, mul-div_cancel, mul-le-mul_left, mul-le-mul_right, mul-lt-mul_of_pos_right, mul_assoc, pow-le-pow_right}
+use Rattle.std.proofs.lemmas.Bool.{cases_lt, cond_above, cond_below}
 use Rattle.std.proofs.lemmas.Nat.{pow-add}
-use Rattle.std.proofs.lemmas.Bool.{cond_below, cond_above, cases_lt}
-use Rattle.cd_text.specs.Millionths.{scaled_millionths, bounded_millionths}
 
 pub ten_le : (i j : ℕ) → i ≤ j → 10 ^ i ≤ 10 ^ j
 ten_le i j le = pow-le-pow_right {n = 10} (omega arith) le

@@ -1,22 +1,22 @@
 -- A text in quotes is one word.
-use Rattle.std.proofs.Common.{◌≡◌, ℕ, ◌+◌, List, [], ◌∷◌, ◌++◌, Bool, true, false, Option, Some, None, Result, Ok, inl, inr, cond, refl, sym, ap, ◌∙◌, append_assoc, subst}
-use Rattle.std.specs.Prelude.{encode_utf8 as encode, ◌==◌, ◌||◌}
-use Rattle.std.specs.Str.{chars, IsUtf8, encode_utf8_all}
-use Rattle.std.specs.Char.{len_utf8}
-use Rattle.std.specs.List.{fold, flat_map}
-use Rattle.std.proofs.Math.Utf8.{scalars, scalar}
-use Rattle.std.proofs.lemmas.Bool.{and_parts, ne_eqb, cases_eq}
-use Rattle.std.proofs.lemmas.List.{append-nil}
-use Rattle.std.proofs.lemmas.List.Sums.{fold-append}
-use Rattle.std.proofs.lemmas.Str.{chars-encodes, encodes-chars, scalars-chars, encodes-append}
-use Rattle.std.proofs.lemmas.List.Concat.{flat_map-append}
+use Rattle.cd_text.proofs.Runs.{is_words, nothing}
+use Rattle.cd_text.specs.Cutting.{State, fed, grown}
+use Rattle.cd_text.specs.Quoting.{adds, escaped, first_word, quoted_of, quoting_after, words_of}
+use Rattle.cd_text.specs.declared.cutter.Quoting.TheVariants.{Inside, Outside}
+use Rattle.cd_text.specs.declared.cutter.Quoting.{Quoting}
 use Rattle.cd_text.specs.declared.word.Word.{Word}
 use Rattle.cd_text.specs.declared.word.WordFault.{WordFault}
-use Rattle.cd_text.specs.declared.cutter.Quoting.{Quoting}
-use Rattle.cd_text.specs.declared.cutter.Quoting.TheVariants.{Outside, Inside}
-use Rattle.cd_text.specs.Quoting.{adds, quoting_after, escaped, quoted_of, words_of, first_word}
-use Rattle.cd_text.specs.Cutting.{State, grown, fed}
-use Rattle.cd_text.proofs.Runs.{nothing, is_words}
+use Rattle.std.proofs.Common.{Bool, List, None, Ok, Option, Result, Some, [], ap, append_assoc, cond, false, inl, inr, refl, subst, sym, true, ℕ, ◌++◌, ◌+◌, ◌∙◌, ◌∷◌, ◌≡◌}
+use Rattle.std.proofs.Math.Utf8.{scalar, scalars}
+use Rattle.std.proofs.lemmas.Bool.{and_parts, cases_eq, ne_eqb}
+use Rattle.std.proofs.lemmas.List.Concat.{flat_map-append}
+use Rattle.std.proofs.lemmas.List.Sums.{fold-append}
+use Rattle.std.proofs.lemmas.List.{append-nil}
+use Rattle.std.proofs.lemmas.Str.{chars-encodes, encodes-append, encodes-chars, scalars-chars}
+use Rattle.std.specs.Char.{len_utf8}
+use Rattle.std.specs.List.{flat_map, fold}
+use Rattle.std.specs.Prelude.{encode_utf8 as encode, ◌==◌, ◌||◌}
+use Rattle.std.specs.Str.{IsUtf8, chars, encode_utf8_all}
 
 -- the state in a word that began the line
 abbrev pub in_word : List ℕ → ℕ → Quoting → State

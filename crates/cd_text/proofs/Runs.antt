@@ -1,27 +1,14 @@
 -- Feeding the characters of a line one by one gives the words of its runs.
-use Rattle.std.proofs.Common.{◌≡◌, ℕ, ◌+◌, ◌≤◌, ◌<◌, List, [], ◌∷◌, ◌++◌, length, take, drop, get_or, Option, Some, None, Result, Ok, Err, is_none, cond, refl, sym, ap, ◌∙◌, append_assoc, arith}
-use Rattle.std.proofs.Common.{length-append, drop-cons, add-one}
-use Rattle.std.proofs.lemmas.List.{append-nil, take-append-drop}
-use Rattle.std.specs.Str.{chars, IsUtf8, encode_utf8_all}
-use Rattle.std.specs.Prelude.{encode_utf8 as encode}
-use Rattle.std.proofs.lemmas.List.Concat.{flat_map-append}
-use Rattle.std.proofs.lemmas.Str.{chars-encodes, encodes-append, length-encode}
-use Rattle.std.specs.Char.{len_utf8}
-use Rattle.std.specs.Option.{option_to_list}
-use Rattle.std.specs.List.{scan, slice_split, filter_map, flat_map, onto_first, fold, cons_option}
-use Rattle.cd_text.specs.declared.cutter.Quoting.{Quoting}
-use Rattle.cd_text.specs.declared.cutter.Quoting.TheVariants.{Outside, Inside, Escaped}
+use Rattle.cd_text.specs.Cutting.{State, fed, grown, longer}
+use Rattle.cd_text.specs.Quoting.{Character, Position, added, adds, character, is_blank, next, start, word, words_from, words_of}
+use Rattle.cd_text.specs.declared.cutter.Quoting.TheVariants.{Outside}
 use Rattle.cd_text.specs.declared.word.Word.{Word}
-use Rattle.cd_text.specs.declared.word.WordFault.{WordFault}
-use Rattle.cd_text.specs.declared.word.WordFault.TheVariants.{Unterminated}
-use Rattle.cd_text.specs.Quoting.{Position, Character, quoting_after, adds, added, next, character, is_blank, word, words_from, start, is_outside, words_of}
-use Rattle.cd_text.specs.Cutting.{State, longer, grown, fed}
-
--- the fields of a step
-pub placed : (s t : State) (o : Option (List ℕ)) (c place : ℕ) (quoting : Quoting) → t ≡ grown s o s.position → place ≡ t.position.place + len_utf8 c → quoting ≡ quoting_after t.position.quoting c
-    → record { words = t.words; current = t.current; position = record { place = place; quoting = quoting } } ≡ grown s o (next s.position c)
-placed s t None c place quoting e p m = cc
-placed s t (Some x) c place quoting e p m = cc
+use Rattle.std.proofs.Common.{List, None, Ok, Option, Some, [], ap, append_assoc, cond, is_none, refl, sym, ℕ, ◌++◌, ◌∙◌, ◌∷◌, ◌≡◌}
+use Rattle.std.proofs.lemmas.List.Concat.{flat_map-append}
+use Rattle.std.proofs.lemmas.List.{append-nil}
+use Rattle.std.specs.List.{cons_option, filter_map, flat_map, fold, onto_first, scan, slice_split}
+use Rattle.std.specs.Option.{option_to_list}
+use Rattle.std.specs.Str.{chars}
 
 -- a run in front of the first part
 abbrev pub prepend : List Character → List (List Character) → List (List Character)
@@ -103,35 +90,9 @@ pub all_words : (cs : List ℕ) → (fold fed nothing cs).words ++ option_to_lis
 unfolding words_from
 all_words cs = fed_all cs nothing [] refl ∙ prepend-nil (slice_split is_blank (scan next character start cs))
 
--- places stay within the line
-place_fold : (cs : List ℕ) (a : Position) → (fold next a cs).place ≡ a.place + length (encode_utf8_all cs)
-place_fold [] a = omega arith
-place_fold (c ∷ cs) a = omega (arith, place_fold cs (next a c), length-append (encode c) (encode_utf8_all cs), length-encode c)
-
-pub place_fits : (line : List ℕ) (n c : ℕ) (s : State) → IsUtf8 line → n < length (chars line) → c ≡ get_or (chars line) n c → s ≡ fold fed nothing (take n (chars line)) → s.position.place + len_utf8 c ≤ length line
-place_fits line n c s utf8 lt e is =
-    let cs = chars line in
-    let all : encode_utf8_all cs ≡ line = ap encode_utf8_all (ap chars (sym utf8.1.1) ∙ chars-encodes utf8.0 utf8.1.0) ∙ utf8.1.1 in
-    let cut : take n cs ++ (c ∷ drop (n + 1) cs) ≡ cs = ap (λ (x : ℕ). take n cs ++ (x ∷ drop (n + 1) cs)) e ∙ ap (λ (xs : List ℕ). take n cs ++ xs) (rw add-one (sym (drop-cons cs n c lt))) ∙ take-append-drop n cs in
-    let parts : encode_utf8_all (take n cs) ++ (encode c ++ encode_utf8_all (drop (n + 1) cs)) ≡ line = sym (encodes-append (take n cs) (c ∷ drop (n + 1) cs)) ∙ ap encode_utf8_all cut ∙ all in
-    let at : s.position ≡ fold next start (take n cs) = ap (λ (t : State). t.position) is ∙ at_fold (take n cs) nothing in
-    let place : s.position.place ≡ length (encode_utf8_all (take n cs)) = ap (λ (a : Position). a.place) at ∙ place_fold (take n cs) start ∙ omega arith in
-    omega (arith, place, ap length parts, length-append (encode_utf8_all (take n cs)) (encode c ++ encode_utf8_all (drop (n + 1) cs)), length-append (encode c) (encode_utf8_all (drop (n + 1) cs)), length-encode c)
-
 pub is_words : (line : List ℕ) (s t : State) → s ≡ fold fed nothing (chars line) → s.position.quoting ≡ Outside → t ≡ grown s None s.position → words_of line ≡ Ok t.words
 unfolding words_of
 is_words line s t is out closed =
     let m : Outside ≡ (fold next start (chars line)).quoting = sym out ∙ ap (λ (x : State). x.position.quoting) is ∙ ap (λ (a : Position). a.quoting) (at_fold (chars line) nothing) in
     let w : t.words ≡ words_from start (chars line) = ap (λ (x : State). x.words) closed ∙ ap (λ (x : State). x.words ++ option_to_list x.current) is ∙ all_words (chars line) in
     rw (← m, w) refl
-
-outside_only : (m : Quoting) (es : List Word) → (m ≡ Outside → ⊥) → cond {A = Result (List Word) WordFault} (is_outside m) (Ok es) (Err Unterminated) ≡ Err Unterminated
-outside_only Outside es never = absurd (never refl)
-outside_only Inside es never = refl
-outside_only Escaped es never = refl
-
-pub is_open : (line : List ℕ) (s : State) → s ≡ fold fed nothing (chars line) → (s.position.quoting ≡ Outside → ⊥) → words_of line ≡ Err Unterminated
-unfolding words_of
-is_open line s is never =
-    let m : s.position.quoting ≡ (fold next start (chars line)).quoting = ap (λ (x : State). x.position.quoting) is ∙ ap (λ (a : Position). a.quoting) (at_fold (chars line) nothing) in
-    outside_only _ (words_from start (chars line)) (λ e. never (m ∙ e))

@@ -1,14 +1,14 @@
 -- Seconds, written as digits behind a whole number, in units of 2^-30 s.
-use Rattle.std.proofs.Common.{◌≡◌, ℕ, ◌+◌, ◌*◌, ◌/◌, ◌^◌, ◌<◌, ◌≤◌, min, List, [], ◌∷◌, ◌++◌, length, Ok, Err, refl, sym, ap, ◌∙◌, subst, arith}
-use Rattle.std.proofs.Math.Nat.{mul_assoc, mul-le-mul_right}
-use Rattle.std.proofs.lemmas.Nat.{pow-add, div_below}
-use Rattle.std.proofs.lemmas.Bool.{cond_below, cond_above}
-use Rattle.std.specs.Char.{digit_value}
-use Rattle.std.specs.Str.Parse.{digits_value, digits_value_after}
-use Rattle.cd_text.specs.Time.{units}
-use Rattle.cd_text.specs.declared.fault.NumFault.TheVariants.{OutOfRange}
 use Rattle.cd_text.proofs.DigitRuns.{digits_value_after-append}
 use Rattle.cd_text.proofs.Powers.{ten_le, ten_pos}
+use Rattle.cd_text.specs.Time.{units}
+use Rattle.cd_text.specs.declared.fault.NumFault.TheVariants.{OutOfRange}
+use Rattle.std.proofs.Common.{Err, List, Ok, [], ap, arith, length, min, refl, subst, sym, ℕ, ◌*◌, ◌++◌, ◌+◌, ◌/◌, ◌<◌, ◌^◌, ◌∙◌, ◌∷◌, ◌≡◌, ◌≤◌}
+use Rattle.std.proofs.Math.Nat.{mul-le-mul_right, mul_assoc}
+use Rattle.std.proofs.lemmas.Bool.{cond_above, cond_below}
+use Rattle.std.proofs.lemmas.Nat.{div_below, pow-add}
+use Rattle.std.specs.Char.{digit_value}
+use Rattle.std.specs.Str.Parse.{digits_value, digits_value_after}
 
 -- digits behind a number make it no less
 pub digits_value_after-low : (n : ℕ) (ds : List ℕ) → n * 10 ^ length ds ≤ digits_value_after 10 n ds

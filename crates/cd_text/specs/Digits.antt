@@ -1,7 +1,7 @@
 -- Runs of decimal digits, and where a text is cut.
-use Rattle.std.specs.Prelude.{ℕ, ◌+◌, ◌==◌, List, drop, Option, Some, None, Bool}
 use Rattle.std.specs.Char.{is_ascii_digit}
 use Rattle.std.specs.List.{list_all}
+use Rattle.std.specs.Prelude.{Bool, List, None, Option, Some, drop, ℕ, ◌+◌, ◌==◌}
 
 abbrev pub are_digits : List ℕ → Bool
 are_digits ds = list_all is_ascii_digit ds

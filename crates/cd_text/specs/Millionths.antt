@@ -1,6 +1,6 @@
 -- A fraction in millionths.
 use Rattle.cd_value.specs.declared.numbers.TheConstants.{MILLIONTHS, NUMBER_LIMIT}
-use Rattle.std.specs.Prelude.{ℕ, ◌*◌, ◌/◌, ◌^◌, nat_lt, Option, Some, None, if◌then◌else◌}
+use Rattle.std.specs.Prelude.{None, Option, Some, if◌then◌else◌, nat_lt, ℕ, ◌*◌, ◌/◌, ◌^◌}
 
 -- a number is in range up to so many whole ones
 abbrev pub ones_limit : ℕ

@@ -1,14 +1,14 @@
 -- A decimal number as text, and its value as one exact fraction.
-use Rattle.std.specs.Prelude.{ℕ, ◌+◌, ◌*◌, ◌^◌, ◌==◌, ◌&&◌, ◌||◌, List, ◌++◌, length, Result, Ok, Err, Option, Some, None, Bool, true, nat_le, nat_lt, if◌then◌else◌, ℤ, pos, neg_ℤ}
-use Rattle.std.specs.Option.{option_copied}
-use Rattle.std.specs.List.{before_first, after_first, position}
-use Rattle.std.specs.Str.Parse.{digits_value, without_leading_sign, starts_with_minus}
-use Rattle.cd_text.specs.Digits.{are_digits, is_dot, after_place}
+use Rattle.cd_text.specs.Digits.{after_place, are_digits, is_dot}
 use Rattle.cd_text.specs.Millionths.{bounded_millionths}
+use Rattle.cd_text.specs.declared.fault.NumFault.TheVariants.{BadNumber, OutOfRange}
+use Rattle.cd_text.specs.declared.fault.NumFault.{NumFault}
 use Rattle.cd_text.specs.declared.number.Decimal.{Decimal}
 use Rattle.cd_text.specs.declared.numbers.TheConstants.{DIGITS_LIMIT, EXPONENT_LIMIT}
-use Rattle.cd_text.specs.declared.fault.NumFault.{NumFault}
-use Rattle.cd_text.specs.declared.fault.NumFault.TheVariants.{BadNumber, OutOfRange}
+use Rattle.std.specs.List.{after_first, before_first, position}
+use Rattle.std.specs.Option.{option_copied}
+use Rattle.std.specs.Prelude.{Bool, Err, List, None, Ok, Option, Result, Some, if◌then◌else◌, length, nat_le, nat_lt, neg_ℤ, pos, true, ℕ, ℤ, ◌&&◌, ◌*◌, ◌++◌, ◌+◌, ◌==◌, ◌^◌, ◌||◌}
+use Rattle.std.specs.Str.Parse.{digits_value, starts_with_minus, without_leading_sign}
 
 -- the parts of a number's text: a sign, whole digits, a dot, further digits, and an exponent behind
 -- an e

@@ -1,13 +1,13 @@
 -- The words of a line, with quotes.
-use Rattle.std.specs.Prelude.{ℕ, ◌+◌, ◌==◌, ◌||◌, List, [], ◌∷◌, ◌++◌, Option, Some, None, is_none, Result, Ok, Err, Bool, true, false, if◌then◌else◌, encode_utf8, encode_utf8_all, fold, unwrap_or}
-use Rattle.std.specs.Char.{len_utf8}
-use Rattle.std.specs.Str.{chars}
-use Rattle.std.specs.List.{scan, slice_split, filter_map, flat_map}
-use Rattle.cd_text.specs.declared.word.Word.{Word}
-use Rattle.cd_text.specs.declared.word.WordFault.{WordFault}
-use Rattle.cd_text.specs.declared.word.WordFault.TheVariants.{Unterminated, Memory}
+use Rattle.cd_text.specs.declared.cutter.Quoting.TheVariants.{Escaped, Inside, Outside}
 use Rattle.cd_text.specs.declared.cutter.Quoting.{Quoting}
-use Rattle.cd_text.specs.declared.cutter.Quoting.TheVariants.{Outside, Inside, Escaped}
+use Rattle.cd_text.specs.declared.word.Word.{Word}
+use Rattle.cd_text.specs.declared.word.WordFault.TheVariants.{Memory, Unterminated}
+use Rattle.cd_text.specs.declared.word.WordFault.{WordFault}
+use Rattle.std.specs.Char.{len_utf8}
+use Rattle.std.specs.List.{filter_map, flat_map, scan, slice_split}
+use Rattle.std.specs.Prelude.{Bool, Err, List, None, Ok, Option, Result, Some, [], encode_utf8, encode_utf8_all, false, fold, if◌then◌else◌, is_none, true, unwrap_or, ℕ, ◌++◌, ◌+◌, ◌==◌, ◌||◌, ◌∷◌}
+use Rattle.std.specs.Str.{chars}
 
 -- the quoting after a character: a quote switches it, and inside a backslash lets the next
 -- character stand for itself

@@ -1,14 +1,14 @@
 -- A time as text, in seconds, and its value in 2^-30 s.
-use Rattle.std.specs.Prelude.{ℕ, ◌*◌, ◌/◌, ◌^◌, ◌&&◌, List, [], ◌++◌, length, Result, Ok, Err, Option, Some, None, Bool, true, nat_le, nat_lt, if◌then◌else◌, ℤ, pos, negsuc, unwrap_or}
-use Rattle.std.specs.List.{before_first, position}
-use Rattle.std.specs.Option.{option_copied}
-use Rattle.std.specs.Str.Parse.{digits_value}
-use Rattle.cd_text.specs.Digits.{are_digits, is_dot, after_place}
+use Rattle.cd_text.specs.Digits.{after_place, are_digits, is_dot}
+use Rattle.cd_text.specs.declared.fault.NumFault.TheVariants.{BadNumber, OutOfRange}
+use Rattle.cd_text.specs.declared.fault.NumFault.{NumFault}
 use Rattle.cd_text.specs.declared.numbers.TheConstants.{FRACTION_LIMIT, SECONDS_END}
 use Rattle.cd_text.specs.declared.time.Seconds.{Seconds}
-use Rattle.cd_text.specs.declared.fault.NumFault.{NumFault}
 use Rattle.cd_value.specs.declared.numbers.TheConstants.{MILLIONTHS, SECOND}
-use Rattle.cd_text.specs.declared.fault.NumFault.TheVariants.{BadNumber, OutOfRange}
+use Rattle.std.specs.List.{before_first, position}
+use Rattle.std.specs.Option.{option_copied}
+use Rattle.std.specs.Prelude.{Bool, Err, List, None, Ok, Option, Result, Some, [], if◌then◌else◌, length, nat_le, nat_lt, negsuc, pos, true, unwrap_or, ℕ, ℤ, ◌&&◌, ◌*◌, ◌++◌, ◌/◌, ◌^◌}
+use Rattle.std.specs.Str.Parse.{digits_value}
 
 -- the parts of a time's text: whole seconds and, behind a dot, digits of a second
 pub record Parts : Type 0 where

@@ -10,6 +10,7 @@
 mod cutter;
 mod digits;
 mod fault;
+mod line_word;
 mod number;
 mod numbers;
 mod quote;
@@ -17,8 +18,9 @@ mod scale;
 mod time;
 mod word;
 
-pub use cutter::words;
+pub use cutter::{line_words, words};
 pub use fault::NumFault;
+pub use line_word::{LineWord, LineWords};
 pub use number::{read_millionths, read_millionths_bytes};
 pub use numbers::{DIGITS_LIMIT, DURATION_LIMIT, EXPONENT_LIMIT, FRACTION_LIMIT, SECONDS_END};
 pub use quote::quoted;

@@ -1,30 +1,9 @@
 //! Decimal numbers as text.
 ghost use Rattle.cd_text.specs.Digits.{after_place, are_digits, is_dot};
-ghost use Rattle.cd_text.specs.Number.{
-  is_e,
-  is_exponent,
-  is_number,
-  lowered_by,
-  number_of,
-  parts,
-  parts_of,
-  raised_by,
-  value,
-  with_sign,
-};
+ghost use Rattle.cd_text.specs.Number.{is_e, is_exponent, is_number, lowered_by, number_of, parts, parts_of, raised_by, value, with_sign};
 ghost use Rattle.std.specs.List.{after_first, before_first, position};
 ghost use Rattle.std.specs.Option.{option_copied};
-ghost use Rattle.std.specs.Prelude.{
-  IfSome,
-  IsTrue,
-  length,
-  ◌+◌,
-  ◌++◌,
-  ◌<◌,
-  ◌^◌,
-  ◌≡◌,
-  ◌≤◌,
-};
+ghost use Rattle.std.specs.Prelude.{IfSome, IsTrue, length, ◌++◌, ◌+◌, ◌<◌, ◌^◌, ◌≡◌, ◌≤◌};
 ghost use Rattle.std.specs.Str.Parse.{digits_value};
 
 use crate::digits::{after_sign, all_digits, begins_with_minus, place_of_dot, with_digits};

@@ -1,16 +1,6 @@
 //! Texts written in quotes.
 ghost use Rattle.cd_text.specs.Quoting.{escaped, first_word, quoted_of, words_of};
-ghost use Rattle.std.specs.Prelude.{
-  encode_utf8_all,
-  IfOk,
-  Ok,
-  OnOk,
-  [],
-  string_bytes,
-  ◌++◌,
-  ◌∷◌,
-  ◌≡◌,
-};
+ghost use Rattle.std.specs.Prelude.{IfOk, Ok, OnOk, [], encode_utf8_all, string_bytes, ◌++◌, ◌∷◌, ◌≡◌};
 
 use cd_value::{Memory, Text};
 use std::alloc::{AllocError, Global};

@@ -1,30 +1,7 @@
 //! Times as text.
 ghost use Rattle.cd_text.specs.Digits.{are_digits};
-ghost use Rattle.cd_text.specs.Time.{
-  further,
-  is_fraction,
-  is_time,
-  parts,
-  parts_of,
-  time_of,
-  units,
-  units_of_millionths,
-};
-ghost use Rattle.std.specs.Prelude.{
-  IsTrue,
-  length,
-  min,
-  pos,
-  ◌*◌,
-  ◌+◌,
-  ◌++◌,
-  ◌/◌,
-  ◌<◌,
-  ◌^◌,
-  ◌≡◌,
-  ◌≤◌,
-  ◌≤ℤ◌,
-};
+ghost use Rattle.cd_text.specs.Time.{further, is_fraction, is_time, parts, parts_of, time_of, units, units_of_millionths};
+ghost use Rattle.std.specs.Prelude.{IsTrue, length, min, pos, ◌*◌, ◌++◌, ◌+◌, ◌/◌, ◌<◌, ◌^◌, ◌≡◌, ◌≤ℤ◌, ◌≤◌};
 ghost use Rattle.std.specs.Str.Parse.{digits_value, digits_value_after};
 
 use crate::digits::{all_digits, place_of_dot, with_digits};

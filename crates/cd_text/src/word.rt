@@ -51,3 +51,11 @@ impl<T: Drop> From<AllocFailed<T>> for WordFault {
         WordFault::Memory
     }
 }
+
+impl From<Memory> for WordFault {
+    ghost from_gives = { λ _ e. e ≡ errors.Memory };
+
+    fn from(_: Memory) -> Self {
+        WordFault::Memory
+    }
+}

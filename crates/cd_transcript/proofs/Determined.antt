@@ -10,7 +10,7 @@ use Rattle.cd_history.specs.declared.given.Given.{Given}
 use Rattle.cd_registry.specs.declared.calls.Answer.{Answer}
 use Rattle.cd_registry.specs.declared.calls.Call.{Call}
 use Rattle.cd_sock.specs.declared.command.Command.TheVariants as command
-use Rattle.cd_transcript.specs.LineRuns.{IsAsked, IsLineRun, OnShelf, Opens, ServesLine, ServesLines, Works, WorksUntilIdle, blank, called, closed, got, handled, listed, none, none as opened_all, nothing, one_more, plug_in, put, refused}
+use Rattle.cd_transcript.specs.LineRuns.{IsAsked, IsLineRun, OnShelf, Opens, ServesLine, ServesLines, Works, WorksUntilIdle, all_handed_out, blank, called, got, handled, listed, none, none as opened_all, nothing, one_more, plug_in, put, refused}
 use Rattle.cd_transcript.specs.Transcripts.{Said}
 use Rattle.cd_value.specs.Identifier.{Fields, name_of}
 use Rattle.cd_value.specs.declared.data.ValueList.{ValueList}
@@ -221,4 +221,4 @@ module _ {Line : Type 0} (K : Opening) (says : Line → ℕ → Said) where
       let tail : r.given_last ≡ r'.given_last = cancel r.given_lines r.given_last r'.given_last (both ∙ ap (λ (x : List Given). x ++ r'.given_last) (sym lines_same.gifts)) in
       let W : History → Type 0 = λ h. WorksUntilIdle K IsAsked (h ▸ entry.Stop 0 why.ControlEnd) r'.given_last r'.stopped in
       let last = works_alike K [] [] r.stops (subst W (sym lines_same.history) r'.stops) (ap (λ (x : List Given). x ++ []) tail) in
-      r.hands_out ∙ ap (λ (h : History). closed K (live h) h) last.history ∙ sym r'.hands_out
+      r.hands_out ∙ ap (λ (h : History). all_handed_out K (live h) h) last.history ∙ sym r'.hands_out

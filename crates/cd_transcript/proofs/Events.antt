@@ -11,7 +11,7 @@ use Rattle.cd_sock.specs.declared.command.Command.TheVariants as command
 use Rattle.cd_sock.specs.declared.fault.LineFault.{LineFault}
 use Rattle.cd_sock.specs.declared.reply.Reply.TheVariants as reply
 use Rattle.cd_transcript.proofs.Transcripts.{as_text, joined}
-use Rattle.cd_transcript.specs.LineRuns.{OnShelf, Opens, Works, called, closed, handled, none, nothing as no_work, plug_in}
+use Rattle.cd_transcript.specs.LineRuns.{OnShelf, Opens, Works, all_handed_out, called, handled, none, nothing as no_work, plug_in}
 use Rattle.cd_transcript.specs.Transcripts.{IsTranscript, Said, blank, found_reply, got, is_of_a_line, listed, nothing, of_lines, offered_reply, put, refused}
 use Rattle.cd_value.specs.Identifier.{Fields, name_of}
 use Rattle.cd_value.specs.declared.data.Offered.{Offered}
@@ -30,9 +30,9 @@ pub opens-of_lines : {shelf : List OnShelf} {P Q : History} {given : List Given}
 opens-of_lines none = refl
 opens-of_lines (plug_in opens) = opens-of_lines opens
 
-pub closed-of_lines : (K : Opening) (gs : List Registration) (P : History) → of_lines (closed K gs P) ≡ of_lines P
-closed-of_lines K [] P = refl
-closed-of_lines K (g ∷ gs) P = closed-of_lines K gs _
+pub handed_out-of_lines : (K : Opening) (gs : List Registration) (P : History) → of_lines (all_handed_out K gs P) ≡ of_lines P
+handed_out-of_lines K [] P = refl
+handed_out-of_lines K (g ∷ gs) P = handed_out-of_lines K gs _
 
 one_event : (Q : History) (e : Event) → of_lines (Q ▸ e) ≡ of_lines Q ++ of_lines ([] ▸ e)
 one_event Q e = by (is_of_a_line e) refl

@@ -1,5 +1,6 @@
 pub mod Transcripts
 pub mod Events
 pub mod Determined
+pub mod Fronts
 mod Steady
 mod WorkedTranscripts

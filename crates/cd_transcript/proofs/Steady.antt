@@ -20,7 +20,7 @@ at_zero lists (Err fault) h = absurd h
 
 steady : (K : Opening) → IsSteady (line_says K)
 steady K None now lists is = absurd (cc)
-steady K (Some line) now lists is = at_zero lists (line_says K (Some line) 0) (read_same K.types now K.interval line (Ok (command.PutVal lists)) is 0 K.interval)
+steady K (Some line) now lists is = at_zero lists (line_says K (Some line) 0) (read_same K.types now K.globals.interval line (Ok (command.PutVal lists)) is 0 K.globals.interval)
 
 pub one_of_lines : (K : Opening) (lines : List Cut) (events : List Event) (text other : List ℕ)
     → IsTranscript (line_says K) lines events text → IsTranscript (line_says K) lines events other → text ≡ other

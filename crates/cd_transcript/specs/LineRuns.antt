@@ -1,9 +1,9 @@
 -- The history of a run over lines on one thread, by the rules of its making: which events come, and what each took of
 -- what the clock, the dice and the plug-ins gave.
 use Rattle.cd_daemon.specs.Answers.{accept_answer, close_answer, handle_answer, is_idle, next_call, query_answer, ready, register_answer, retire_answer}
-use Rattle.cd_daemon.specs.Calls.{answered_as}
 use Rattle.cd_daemon.specs.declared.Opening.{Opening}
 use Rattle.cd_history.specs.History.{Event, History, handles, kept, ◌▸◌}
+use Rattle.cd_history.specs.Leases.{answered_as}
 use Rattle.cd_history.specs.Registrations.{Registration, live}
 use Rattle.cd_history.specs.declared.entry.Entry.TheVariants as entry
 use Rattle.cd_history.specs.declared.entry.Joining.TheVariants as joining
@@ -62,8 +62,8 @@ IsAsked now took = took ≡ Now now ∷ []
 
 module _ {Line : Type 0} (K : Opening) (says : Line → ℕ → Said) where
   -- A line was served after P, which leaves Q. One that isn't blank asks a moment. One that offers lists then asks a
-  -- word for each, and they are accepted at that moment; a query has its event. Then work goes on until it is idle, after a
-  -- line that was refused too.
+  -- word for each, and they are accepted at that moment; a query has its event. Then work goes on until it is idle,
+  -- after a line that was refused too.
   pub data ServesLine : Line → History → List Given → History → Type 0 where
     blank : {l : Line} {P : History} → says l 0 ≡ Ok command.Blank → ServesLine l P [] P
     refused : {l : Line} {P Q : History} {now : ℕ} {fault : LineFault} {given : List Given}
@@ -74,7 +74,8 @@ module _ {Line : Type 0} (K : Opening) (says : Line → ℕ → Said) where
         → ServesLine l P (Now now ∷ map Word words ++ given) Q
     got : {l : Line} {P Q : History} {now : ℕ} {id : Fields} {given : List Given}
         → says l 0 ≡ Ok (command.GetVal id)
-        → WorksUntilIdle K IsAsked (P ▸ entry.Query 0 (Some (name_of id)) (query_answer K P (Some (name_of id)))) given Q
+        → WorksUntilIdle K IsAsked
+        (P ▸ entry.Query 0 (Some (name_of id)) (query_answer K P (Some (name_of id)))) given Q
         → ServesLine l P (Now now ∷ given) Q
     listed : {l : Line} {P Q : History} {now : ℕ} {given : List Given}
         → says l 0 ≡ Ok command.ListVal
@@ -88,15 +89,16 @@ module _ {Line : Type 0} (K : Opening) (says : Line → ℕ → Said) where
         → ServesLines lines P given Q → ServesLine l Q more R → ServesLines (lines ++ l ∷ []) P (given ++ more) R
 
 -- each registration is closed and its object handed out, in order
-abbrev pub closed : Opening → List Registration → History → History
-closed K [] P = P
-closed K (g ∷ gs) P =
+abbrev pub all_handed_out : Opening → List Registration → History → History
+all_handed_out K [] P = P
+all_handed_out K (g ∷ gs) P =
     let Q = P ▸ entry.Close 0 g.name (close_answer P g.name) in
-    closed K gs (Q ▸ entry.Retire 0 g.number (retire_answer K Q g.number))
+    all_handed_out K gs (Q ▸ entry.Retire 0 g.number (retire_answer K Q g.number))
 
--- The history of a run over these lines: it opens, the lines are served, and at the end of the input the daemon stops, works
--- until it is idle, and hands all objects out. Each of the first three has its own share of what was given.
-pub record IsLineRun {Line : Type 0} (K : Opening) (says : Line → ℕ → Said) (shelf : List OnShelf) (lines : List Line) (given : List Given) (H : History) : Type 0 where
+-- The history of a run over these lines: it opens, the lines are served, and at the end of the input the daemon stops,
+-- works until it is idle, and hands all objects out. Each of the first three has its own share of what was given.
+pub record IsLineRun {Line : Type 0} (K : Opening) (says : Line → ℕ → Said)
+    (shelf : List OnShelf) (lines : List Line) (given : List Given) (H : History) : Type 0 where
   pub opened : History
   pub served : History
   pub stopped : History
@@ -106,9 +108,10 @@ pub record IsLineRun {Line : Type 0} (K : Opening) (says : Line → ℕ → Said
   pub opens : Opens shelf [] given_first opened
   pub serves : ServesLines K says lines opened given_lines served
   pub stops : WorksUntilIdle K IsAsked (served ▸ entry.Stop 0 why.ControlEnd) given_last stopped
-  pub hands_out : H ≡ closed K (live stopped) stopped
+  pub hands_out : H ≡ all_handed_out K (live stopped) stopped
   pub given_is : given ≡ given_first ++ (given_lines ++ given_last)
 
 -- each plug-in tells what it told, and then the calls and answers of all registrations of its name
-abbrev pub returned : Opening → History → List OnShelf → List OnShelf
-returned K H shelf = map {A = OnShelf} (λ plug. record plug { tells = told_after_all (answered_as K plug.name H) plug.tells }) shelf
+abbrev pub returned : History → List OnShelf → List OnShelf
+returned H shelf =
+    map {A = OnShelf} (λ plug. record plug { tells = told_after_all (answered_as plug.name H) plug.tells }) shelf

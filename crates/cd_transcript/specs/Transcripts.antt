@@ -28,7 +28,7 @@ Said = Result Command LineFault
 -- what a line of the socket says at a moment to a daemon of that opening; one that is too long says just that
 abbrev pub line_says : Opening → Cut → ℕ → Said
 line_says K None now = Err LineTooLong
-line_says K (Some line) now = meaning K.types now K.interval line
+line_says K (Some line) now = meaning K.types now K.globals.interval line
 
 -- the events that lines ask for
 abbrev pub is_of_a_line : Event → Bool
@@ -64,10 +64,11 @@ found_reply (found.Got names rates) = reply.Got names rates
 found_reply (found.Listed rows) = reply.Listed rows
 found_reply found.NoSuchValue = reply.NoSuchValue
 
--- What is written for lines, in order, where each asks for the event that it uses, in order. A blank line writes nothing
--- and a refused one its fault, and neither uses an event; whether a line is so doesn't depend on the moment, so it is read
--- at 0. PUTVAL uses the acceptance of the lists that it has at that moment, GETVAL the query of its name, and LISTVAL that of
--- all; what is written is the event's reply. A look is passed over, and no other event is left.
+-- What is written for lines, in order, where each asks for the event that it uses, in order. A blank line writes
+-- nothing and a refused one its fault, and neither uses an event; whether a line is so doesn't depend on the moment,
+-- so it is read at 0. PUTVAL uses the acceptance of the lists that it has at that moment, GETVAL the query of its
+-- name, and LISTVAL that of all; what is written is the event's reply. A look is passed over, and no other event is
+-- left.
 module _ {Line : Type 0} (says : Line → ℕ → Said) where
   pub data IsTranscript : List Line → List Event → List ℕ → Type 0 where
     nothing : IsTranscript [] [] []
@@ -81,10 +82,12 @@ module _ {Line : Type 0} (says : Line → ℕ → Said) where
     put : {l : Line} {lines : List Line} {events : List Event} {text : List ℕ}
         {a now : ℕ} {lists : List ValueList} {words : List ℕ} {answer : Result (List Offered) Stopping}
         → says l now ≡ Ok (command.PutVal lists) → IsTranscript lines events text
-        → IsTranscript (l ∷ lines) (entry.Accept a lists words now answer ∷ events) (reply_text (offered_reply answer) ++ text)
+        → IsTranscript (l ∷ lines) (entry.Accept a lists words now answer ∷ events)
+        (reply_text (offered_reply answer) ++ text)
     got : {l : Line} {lines : List Line} {events : List Event} {text : List ℕ} {a : ℕ} {id : Fields} {answer : Found}
         → says l 0 ≡ Ok (command.GetVal id) → IsTranscript lines events text
-        → IsTranscript (l ∷ lines) (entry.Query a (Some (name_of id)) answer ∷ events) (reply_text (found_reply answer) ++ text)
+        → IsTranscript (l ∷ lines) (entry.Query a (Some (name_of id)) answer ∷ events)
+        (reply_text (found_reply answer) ++ text)
     listed : {l : Line} {lines : List Line} {events : List Event} {text : List ℕ} {a : ℕ} {answer : Found}
         → says l 0 ≡ Ok command.ListVal → IsTranscript lines events text
         → IsTranscript (l ∷ lines) (entry.Query a None answer ∷ events) (reply_text (found_reply answer) ++ text)

@@ -1,9 +1,9 @@
 -- The passes that one pass splits off. For a caller's proofs.
-use Rattle.std.proofs.Common.{ℕ, ◌<◌, List, length, refl, ap, ◌∙◌, inl, inr}
-use lib.ListN.{get_elem?}
 use Rattle.atomic_table.proofs.Lists.{at_last}
-use Rattle.cd_turn.specs.declared.view.View.{View}
 use Rattle.cd_turn.specs.Families.{IsNew, SplitsOff}
+use Rattle.cd_turn.specs.declared.view.View.{View}
+use Rattle.std.proofs.Common.{List, ap, inl, inr, length, refl, ℕ, ◌<◌, ◌∙◌}
+use lib.ListN.{get_elem?}
 
 module _ {K E : Type 0} (v w z : View K E) (s : SplitsOff v w z) (n : ℕ) (new : IsNew w n) where
   -- an actor that is new to a pass is above the pass, and above the one that it split off last

@@ -1,10 +1,10 @@
 -- The words that views name as used up.
-use Rattle.std.proofs.Common.{◌≡◌, ◌≢◌, ◌⊎◌, ℕ, List, [], ◌∷◌, ◌++◌, set, get_or, ap, sym, ◌∙◌, arith, inl, inr, ⊎_elim, Option, Some, None, true, get_or-set_other}
 use Rattle.atomic_table.proofs.Lists.{at_snoc}
-use Rattle.cd_turn.specs.declared.view.View.{View}
-use Rattle.cd_turn.specs.Rule.{At, IsFull, IsOver, most}
-use Rattle.std.specs.Option.{option_or}
 use Rattle.cd_turn.proofs.Views.{set_each}
+use Rattle.cd_turn.specs.Rule.{At, IsFull, IsOver, most}
+use Rattle.cd_turn.specs.declared.view.View.{View}
+use Rattle.std.proofs.Common.{List, None, Option, Some, [], ap, arith, get_or, get_or-set_other, inl, inr, set, sym, true, ℕ, ⊎_elim, ◌++◌, ◌∙◌, ◌∷◌, ◌≡◌, ◌≢◌, ◌⊎◌}
+use Rattle.std.specs.Option.{option_or}
 
 -- a word that has not its last value changes, and each that has it stays
 pub full_other : (words : List ℕ) (a new i : ℕ) → get_or words a 0 ≢ most → IsFull words i → IsFull (set words a new) i

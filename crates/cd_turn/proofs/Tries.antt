@@ -1,12 +1,12 @@
 -- The tries of one call to draw a number.
-use Rattle.std.proofs.Common.{◌≡◌, ℕ, List, ◌++◌, Some, refl, sym, ◌∙◌, subst}
-use Rattle.atomic_table.specs.Table.{Me}
-use Rattle.cd_turn.specs.declared.view.View.{View}
 use Rattle.atomic_table.specs.Seated.{TableId}
+use Rattle.atomic_table.specs.Table.{Me}
 use Rattle.atomic_table.specs.declared.shared.Seat.{Seat}
-use Rattle.cd_turn.specs.declared.pass.Face.{Face}
 use Rattle.cd_turn.specs.Families.{IsNew}
 use Rattle.cd_turn.specs.Passes.{IsFace, IsIdle, IsPass, Sound, refused, with_tries}
+use Rattle.cd_turn.specs.declared.pass.Face.{Face}
+use Rattle.cd_turn.specs.declared.view.View.{View}
+use Rattle.std.proofs.Common.{List, Some, refl, subst, sym, ℕ, ◌++◌, ◌∙◌, ◌≡◌}
 
 module _ {S K E : Type 0} where
   -- nothing was drawn yet: of the view, only what the tries found has grown

@@ -1,8 +1,8 @@
 -- Passes that are split off, and joined.
-use Rattle.std.specs.Prelude.{◌≡◌, ◌⊎◌, ℕ, ◌+◌, ◌<◌, ◌==◌, Bool, if◌then◌else◌, Option, List, [], ◌++◌, ◌∷◌, true, false, Some, None}
-use Rattle.std.specs.Option.{option_or}
-use Rattle.cd_turn.specs.declared.view.View.{View}
 use Rattle.cd_turn.specs.Rule.{Has, Joined, drawn_of, new_view}
+use Rattle.cd_turn.specs.declared.view.View.{View}
+use Rattle.std.specs.Option.{option_or}
+use Rattle.std.specs.Prelude.{Bool, List, None, Option, Some, [], false, if◌then◌else◌, true, ℕ, ◌++◌, ◌+◌, ◌<◌, ◌==◌, ◌∷◌, ◌≡◌, ◌⊎◌}
 
 module _ {K E : Type 0} where
   -- a view tells of an actor: its own, a child or one that it joined
@@ -14,9 +14,9 @@ module _ {K E : Type 0} where
   IsNew v n = (a : ℕ) → TellsOf v a → a < n
 
 -- the actor that was drawn
-abbrev pub number_of : Option ℕ → ℕ
-number_of None = 0
-number_of (Some n) = n
+abbrev pub drawn_actor : Option ℕ → ℕ
+drawn_actor None = 0
+drawn_actor (Some n) = n
 
 -- splitting: what is left of the old view, and the new one
 module _ {K E : Type 0} where
@@ -28,7 +28,7 @@ module _ {K E : Type 0} where
   }
 
   abbrev pub child_of : View K E → View K E
-  child_of v = new_view v.fixed (number_of v.fresh) v.actor v.seen
+  child_of v = new_view v.fixed (drawn_actor v.fresh) v.actor v.seen
 
   -- the old pass has one child more, and the new one has seen as much and done nothing
   pub record SplitsOff (v w z : View K E) : Type 0 where
@@ -49,18 +49,18 @@ module _ {A : Type 0} where
   is_shorter (x ∷ xs) [] = false
   is_shorter (x ∷ xs) (y ∷ ys) = is_shorter xs ys
 
-  abbrev pub longer : List A → List A → List A
-  longer xs ys = if is_shorter xs ys then ys else xs
+  abbrev pub longer_list : List A → List A → List A
+  longer_list xs ys = if is_shorter xs ys then ys else xs
 
-abbrev pub without : ℕ → List ℕ → List ℕ
-without a [] = []
-without a (x ∷ xs) = if x == a then xs else x ∷ without a xs
+abbrev pub without_actor : ℕ → List ℕ → List ℕ
+without_actor a [] = []
+without_actor a (x ∷ xs) = if x == a then xs else x ∷ without_actor a xs
 
 -- the view of a pass that took in another
 abbrev pub merged_view : {K E : Type 0} → View K E → View K E → View K E
 merged_view v w = record v {
-  seen = longer v.seen w.seen;
-  unjoined = without w.actor v.unjoined;
+  seen = longer_list v.seen w.seen;
+  unjoined = without_actor w.actor v.unjoined;
   merged = v.merged + 1;
   joined = v.joined ++ (w.actor, w.mine) ∷ w.joined;
   beginnings = v.seen ∷ w.seen ∷ [];

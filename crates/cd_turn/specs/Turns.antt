@@ -1,9 +1,9 @@
 -- What a pass knows and shows, and which turn it is of.
-use Rattle.std.specs.Prelude.{◌≡◌, ℕ, List, [], ◌∷◌, Option}
+use Rattle.cd_turn.specs.Passes.{IsHeld, IsPass, Shows}
 use Rattle.cd_turn.specs.declared.pass.Pass.{Pass}
 use Rattle.cd_turn.specs.declared.turn.Turn.{Turn}
 use Rattle.cd_turn.specs.declared.view.View.{View}
-use Rattle.cd_turn.specs.Passes.{IsPass, IsHeld, Shows}
+use Rattle.std.specs.Prelude.{List, Option, [], ℕ, ◌∷◌, ◌≡◌}
 
 module _ {S E K : Type 0} where
   -- what a pass knows

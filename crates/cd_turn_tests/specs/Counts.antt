@@ -1,7 +1,7 @@
 -- What a count stands for.
-use Rattle.std.specs.Prelude.{◌≡◌, ◌%◌, ◌^◌, List, length}
 use Rattle.cd_turn_tests.specs.declared.count.Count.{Count}
 use Rattle.cd_turn_tests.specs.declared.count.Tick.{Tick}
+use Rattle.std.specs.Prelude.{List, length, ◌%◌, ◌^◌, ◌≡◌}
 
 -- the length of the history, wrapping
 abbrev pub Counts : Unit {0} → List Tick → Count → Type 0

@@ -1,11 +1,11 @@
 -- Passes and their children.
-use Rattle.std.specs.Prelude.{◌≡◌}
+use Rattle.cd_turn.specs.Turns.{IsPassOf, actor_of, out_of, parent_of, view}
 use Rattle.cd_turn.specs.declared.pass.Pass.{Pass}
 use Rattle.cd_turn.specs.declared.turn.Turn.{Turn}
-use Rattle.cd_turn.specs.Turns.{IsPassOf, actor_of, out_of, parent_of, view}
+use Rattle.cd_turn_tests.specs.Ticks.{tick_by}
 use Rattle.cd_turn_tests.specs.declared.count.Count.{Count}
 use Rattle.cd_turn_tests.specs.declared.count.Tick.{Tick}
-use Rattle.cd_turn_tests.specs.Ticks.{tick_by}
+use Rattle.std.specs.Prelude.{◌≡◌}
 
 abbrev pub CountPass : Type 0
 CountPass = Pass Count Tick (Unit {0})

@@ -1,6 +1,6 @@
 -- How often a bell was rung, and by whom.
-use Rattle.std.specs.Prelude.{◌≡◌, ◌%◌, ◌^◌, ℕ, List, length}
 use Rattle.cd_turn_tests.specs.declared.bell.Tower.{Tower}
+use Rattle.std.specs.Prelude.{List, length, ℕ, ◌%◌, ◌^◌, ◌≡◌}
 
 -- as often as there were turns, wrapping
 abbrev pub Rung : {B : Type 0} → Unit {0} → List ℕ → Tower B → Type 0

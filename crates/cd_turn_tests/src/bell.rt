@@ -1,9 +1,9 @@
 //! A state of this crate that holds an object of any, which may be a box, over entries of another crate: an entry is a
 //! `u64`, the number of who rang.
-ghost use Rattle.std.specs.Prelude.{◌≡◌, ◌+◌, ◌%◌, ◌^◌};
-ghost use Rattle.std.specs.Thread.{IsSync};
 ghost use Rattle.cd_turn.specs.Turns.{IsPassOf, actor_of, out_of, parent_of};
 ghost use Rattle.cd_turn_tests.specs.Towers.{rung_by};
+ghost use Rattle.std.specs.Prelude.{◌%◌, ◌+◌, ◌^◌, ◌≡◌};
+ghost use Rattle.std.specs.Thread.{IsSync};
 
 use cd_turn::{Pass, Story, Tells, Turn};
 use std::alloc::Global;
@@ -66,7 +66,8 @@ pub fn ring_once<R: Wait, B: Bell>(
 ) -> Pass<Tower<B>, u64>
     requires { IsPassOf rung_by turn.now pass }
     ensures pass { IsPassOf rung_by turn.now result }
-    ensures same { (actor_of result ≡ actor_of pass) × (parent_of result ≡ parent_of pass) × (out_of result ≡ out_of pass) }
+    ensures same { (actor_of result ≡ actor_of pass) × (parent_of result ≡ parent_of pass)
+        × (out_of result ≡ out_of pass) }
 {
     if let Ok(mut held) = pass.enter(rt, turn) {
         held.state().ring();

@@ -1,5 +1,5 @@
 //! A state that counts its entries.
-ghost use Rattle.std.specs.Prelude.{◌≡◌, ◌+◌, ◌%◌, ◌^◌};
+ghost use Rattle.std.specs.Prelude.{◌%◌, ◌+◌, ◌^◌, ◌≡◌};
 
 use cd_turn::{Story, Tells};
 

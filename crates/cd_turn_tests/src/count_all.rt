@@ -1,11 +1,11 @@
 //! What the state counts where all passes are joined again.
-ghost use Rattle.std.specs.Prelude.{◌≡◌, ◌%◌, ◌^◌, [], List, length, IfSome};
-ghost use Rattle.std.specs.Arc.{arc_value};
 ghost use Rattle.cd_turn.specs.History.{mine_of};
 ghost use Rattle.cd_turn.specs.Turns.{IsPassOf, view};
 ghost use Rattle.cd_turn_tests.specs.Family.{SameActor};
-ghost use Rattle.cd_turn_tests.specs.declared.count.Tick.{Tick as Ticks};
 ghost use Rattle.cd_turn_tests.specs.Ticks.{tick_by};
+ghost use Rattle.cd_turn_tests.specs.declared.count.Tick.{Tick as Ticks};
+ghost use Rattle.std.specs.Arc.{arc_value};
+ghost use Rattle.std.specs.Prelude.{IfSome, List, [], length, ◌%◌, ◌^◌, ◌≡◌};
 
 use crate::count::{Count, Tick};
 use crate::worker::{finish, start};
@@ -61,7 +61,8 @@ fn family<R: Threads + Wait, W: Wait + Copy + Send + Drop + 'static>(
 fn end(turn: Arc<Turn<Count, Tick>, Global>, pass: Pass<Count, Tick>) -> Option<u64>
     requires pass { IsPassOf tick_by (arc_value turn) pass }
     requires mine { ((view pass).actor ≡ 0) × ((view pass).mine ≡ []) }
-    ensures { IfSome result (λ n. (log : List Ticks) × (n ≡ length log % 2 ^ 64) × (mine_of tick_by 0 log ≡ [])) }
+    ensures { IfSome result (λ n. (log : List Ticks)
+        × (n ≡ length log % 2 ^ 64) × (mine_of tick_by 0 log ≡ [])) }
 {
     let Ok(turn) = Arc::try_unwrap(turn) else {
         return None;
@@ -80,7 +81,8 @@ pub fn count_of_four<R: Threads + Wait, W: Wait + Copy + Send + Drop + 'static>(
     alloc: Global,
     turns: u64,
 ) -> Option<u64>
-    ensures { IfSome result (λ n. (log : List Ticks) × (n ≡ length log % 2 ^ 64) × (mine_of tick_by 0 log ≡ [])) }
+    ensures { IfSome result (λ n. (log : List Ticks)
+        × (n ≡ length log % 2 ^ 64) × (mine_of tick_by 0 log ≡ [])) }
 {
     let Ok((turn, mut pass)) = Turn::new(alloc, Count { count: 0 }) else {
         return None;
@@ -100,7 +102,8 @@ pub fn count_of_family<R: Threads + Wait, W: Wait + Copy + Send + Drop + 'static
     threads: u64,
     turns: u64,
 ) -> Option<u64>
-    ensures { IfSome result (λ n. (log : List Ticks) × (n ≡ length log % 2 ^ 64) × (mine_of tick_by 0 log ≡ [])) }
+    ensures { IfSome result (λ n. (log : List Ticks)
+        × (n ≡ length log % 2 ^ 64) × (mine_of tick_by 0 log ≡ [])) }
 {
     let Ok((turn, mut pass)) = Turn::new(alloc, Count { count: 0 }) else {
         return None;

@@ -1,8 +1,8 @@
 //! What a caller learns of the passes that it splits off.
-ghost use Rattle.std.specs.Prelude.{◌≡◌, ◌<◌, IfNone, IfSome, Some};
 ghost use Rattle.cd_turn.specs.Turns.{IsPassOf, view};
 ghost use Rattle.cd_turn_tests.specs.Family.{IsChild, SameActor};
 ghost use Rattle.cd_turn_tests.specs.Ticks.{tick_by};
+ghost use Rattle.std.specs.Prelude.{IfNone, IfSome, Some, ◌<◌, ◌≡◌};
 
 use crate::count::{Count, Tick};
 use cd_turn::{Pass, Turn};

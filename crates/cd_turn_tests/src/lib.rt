@@ -2,8 +2,9 @@
 //! object of any crate and has entries of another.
 //!
 //! It stands on `cd_turn` alone; its tests start threads. Read `specs/Counts.antt` (what a count stands for) and
-//! `specs/Family.antt` first, then `src/worker.rt`, which is how a caller takes a turn, splits and joins. A new use begins
-//! with a state and its `Story`, as in `src/count.rt`; `src/bell.rt` has one whose entries are of another crate.
+//! `specs/Family.antt` first, then `src/worker.rt`, which is how a caller takes a turn, splits and joins. A new use
+//! begins with a state and its `Story`, as in `src/count.rt`; `src/bell.rt` has one whose entries are of another
+//! crate.
 #![tactic(auto)]
 
 mod bell;

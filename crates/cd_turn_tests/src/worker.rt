@@ -1,9 +1,9 @@
 //! Turns of one pass, here or in a thread.
-ghost use Rattle.std.specs.Prelude.{◌≡◌, ◌⊎◌, ◌+◌, [], ◌∷◌, ◌++◌, IfSome, Some};
-ghost use Rattle.std.specs.Arc.{arc_value};
 ghost use Rattle.cd_turn.specs.Turns.{IsPassOf, actor_of, out_of, parent_of, view};
 ghost use Rattle.cd_turn_tests.specs.Family.{IsChild, SameActor};
 ghost use Rattle.cd_turn_tests.specs.Ticks.{tick, tick_by};
+ghost use Rattle.std.specs.Arc.{arc_value};
+ghost use Rattle.std.specs.Prelude.{IfSome, Some, [], ◌++◌, ◌+◌, ◌∷◌, ◌≡◌, ◌⊎◌};
 
 use crate::count::{Count, Tick, Ticked};
 use cd_turn::{Pass, Turn};
@@ -37,7 +37,8 @@ pub fn run<R: Wait>(
 ) -> Pass<Count, Tick>
     requires { IsPassOf tick_by turn.now pass }
     ensures pass { IsPassOf tick_by turn.now result }
-    ensures same { (actor_of result ≡ actor_of pass) × (parent_of result ≡ parent_of pass) × (out_of result ≡ out_of pass) }
+    ensures same { (actor_of result ≡ actor_of pass) × (parent_of result ≡ parent_of pass)
+        × (out_of result ≡ out_of pass) }
 {
     for _ in 0..turns {
         turn_once(rt, turn, &mut pass);
@@ -50,12 +51,13 @@ pub fn run<R: Wait>(
 pub struct Ran(Snapshot<Pass<Count, Tick>>);
 
 impl Promise<Pass<Count, Tick>> for Ran {
-    ghost use Rattle.std.specs.Prelude.{◌≡◌};
     ghost use Rattle.cd_turn.specs.Passes.{IsPass};
     ghost use Rattle.cd_turn.specs.Turns.{out_of, parent_of};
     ghost use Rattle.cd_turn_tests.specs.Ticks.{tick_by};
+    ghost use Rattle.std.specs.Prelude.{◌≡◌};
 
-    ghost kept_by = { λ p r. IsPass tick_by p.0.value.seat.table_id r.seat r.face × (parent_of r ≡ parent_of p.0.value) × (out_of r ≡ out_of p.0.value) };
+    ghost kept_by = { λ p r. IsPass tick_by p.0.value.seat.table_id r.seat r.face
+        × (parent_of r ≡ parent_of p.0.value) × (out_of r ≡ out_of p.0.value) };
 }
 
 /// A thread that has a pass.

@@ -1,0 +1,12 @@
+pub mod Ascending
+pub mod Decimals
+pub mod Entries
+pub mod Latest
+pub mod MergedSets
+pub mod Named
+pub mod PrintedNumbers
+pub mod PrintedSets
+pub mod PrintedSources
+pub mod ReadSets
+pub mod TextFaults
+pub mod TextRuns

@@ -1,1 +1,10 @@
+pub mod Entry
+pub mod Faults
+pub mod Latest
+pub mod Line
+pub mod Named
+pub mod Printed
+pub mod Sets
+pub mod Text
 pub mod Types
+pub mod Valid

@@ -1,15 +1,15 @@
 -- The types of types.db(5), and which value lists fit them.
-use Rattle.std.specs.Prelude.{ℕ, ℤ, pos, nat_abs, Bool, true, false, ◌&&◌, nat_le, ◌==◌, List, [], ◌∷◌, length, Option, Some, None, codes}
-use Rattle.std.specs.List.{find, list_all, zip}
-use Rattle.std.specs.Str.{bytes_eq}
 use Rattle.cd_value.specs.declared.data.DataSet.{DataSet}
 use Rattle.cd_value.specs.declared.data.DataSource.{DataSource}
-use Rattle.cd_value.specs.declared.data.DsType.{DsType}
 use Rattle.cd_value.specs.declared.data.DsType.TheVariants as kinds
+use Rattle.cd_value.specs.declared.data.DsType.{DsType}
+use Rattle.cd_value.specs.declared.data.Value.TheVariants.{Absolute, Counter, Derive, Gauge}
 use Rattle.cd_value.specs.declared.data.Value.{Value}
-use Rattle.cd_value.specs.declared.data.Value.TheVariants.{Counter, Gauge, Derive, Absolute}
 use Rattle.cd_value.specs.declared.data.ValueList.{ValueList}
 use Rattle.cd_value.specs.declared.numbers.TheConstants.{NUMBER_LIMIT}
+use Rattle.std.specs.List.{find, list_all, zip}
+use Rattle.std.specs.Prelude.{Bool, List, None, Option, Some, [], codes, false, length, nat_abs, nat_le, pos, true, ℕ, ℤ, ◌&&◌, ◌==◌, ◌∷◌}
+use Rattle.std.specs.Str.{bytes_eq}
 
 -- the kind of a value
 abbrev pub kind_of : Value → DsType

@@ -1,8 +1,8 @@
 //! Which value lists fit a data set.
-ghost use Rattle.std.specs.Prelude.{◌≡◌, ◌==◌, length};
-ghost use Rattle.std.specs.Str.{bytes_eq};
-ghost use Rattle.std.specs.List.{list_all, zip};
 ghost use Rattle.cd_types.specs.Types.{fits_set, fits_source, is_in_range, is_same_kind, kind_of};
+ghost use Rattle.std.specs.List.{list_all, zip};
+ghost use Rattle.std.specs.Prelude.{length, ◌==◌, ◌≡◌};
+ghost use Rattle.std.specs.Str.{bytes_eq};
 
 use cd_value::{DataSet, DataSource, DsType, NUMBER_LIMIT, Value, ValueList};
 

@@ -1,14 +1,14 @@
 -- What cleaning makes of a text.
-use Rattle.std.proofs.Common.{◌≡◌, ℕ, suc, zero, ◌≤◌, Bool, true, false, not, cond, ◌||◌, ◌&&◌, List, [], ◌∷◌, length, take, map, refl, ap, ◌∙◌, arith}
-use Rattle.std.specs.Prelude.{nat_le, slice_index}
-use Rattle.std.specs.List.{list_any}
-use Rattle.std.specs.Fmt.{is_char_start}
-use Rattle.std.specs.Fmt.Cut.{floor_char_boundary}
-use Rattle.std.proofs.lemmas.Bool.{or_parts, and_parts, and_from, not-true, not_from_false, le-leb, leb-true}
-use Rattle.std.proofs.lemmas.List.{length-take}
-use Rattle.cd_value.specs.Identifier.{is_control, is_slash, is_field}
-use Rattle.cd_value.specs.Clean.{clean_byte, clean_field, longest_front, is_clean}
 use Rattle.cd_value.proofs.Cuts.{list_any_take}
+use Rattle.cd_value.specs.Clean.{clean_byte, clean_field, is_clean, longest_front}
+use Rattle.cd_value.specs.Identifier.{is_control, is_field, is_slash}
+use Rattle.std.proofs.Common.{Bool, List, [], ap, arith, cond, false, length, map, not, refl, suc, take, true, zero, ℕ, ◌&&◌, ◌||◌, ◌∙◌, ◌∷◌, ◌≡◌, ◌≤◌}
+use Rattle.std.proofs.lemmas.Bool.{and_from, and_parts, le-leb, leb-true, not-true, not_from_false, or_parts}
+use Rattle.std.proofs.lemmas.List.{length-take}
+use Rattle.std.specs.Fmt.Cut.{floor_char_boundary}
+use Rattle.std.specs.Fmt.{is_char_start}
+use Rattle.std.specs.List.{list_any}
+use Rattle.std.specs.Prelude.{nat_le, slice_index}
 
 byte_control : (slash : Bool) (byte : ℕ) → is_control (clean_byte slash byte) ≡ false
 byte_control slash byte = step (is_control byte || (slash && is_slash byte)) refl

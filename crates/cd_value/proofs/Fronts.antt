@@ -1,18 +1,18 @@
 -- Where a text is cut, and what replacing its characters keeps.
-use Rattle.std.proofs.Common.{◌≡◌, ℕ, suc, zero, ◌<◌, ◌≤◌, ◌++◌, Bool, true, false, cond, ◌||◌, ◌&&◌, List, [], ◌∷◌, length, take, map, get_or, refl, ap, sym, ◌∙◌, subst, inl, inr, arith, lit<, append-nil}
-use Rattle.std.specs.Prelude.{nat_le, ◌⊎◌}
-use Rattle.std.specs.Fmt.{is_char_start}
-use Rattle.std.specs.Fmt.Cut.{floor_char_boundary}
-use Rattle.std.specs.Str.{IsCharBoundary, IsUtf8}
+use Rattle.cd_value.specs.Clean.{clean_byte, longest_front}
+use Rattle.cd_value.specs.Identifier.{is_control, is_slash}
+use Rattle.std.proofs.Common.{Bool, List, [], ap, append-nil, arith, cond, false, get_or, inl, inr, length, lit<, map, refl, subst, suc, sym, take, true, zero, ℕ, ◌&&◌, ◌++◌, ◌<◌, ◌||◌, ◌∙◌, ◌∷◌, ◌≡◌, ◌≤◌}
+use Rattle.std.proofs.Math.Bool.{and-false}
 use Rattle.std.proofs.Math.Seq.{take-length}
-use Rattle.std.proofs.lemmas.Bool.{leb-true, leb-false, ne_eqb, le-ltb, and_parts, and_from}
 use Rattle.std.proofs.lemmas.Bool.Decides.{nat_tests}
+use Rattle.std.proofs.lemmas.Bool.{and_from, and_parts, le-ltb, leb-false, leb-true, ne_eqb}
 use Rattle.std.proofs.lemmas.List.{map-append}
 use Rattle.std.proofs.lemmas.Str.{IsCharBoundary-end, encode_ascii, inside_one}
-use Rattle.std.proofs.Math.Bool.{and-false}
-use lib.Utf8.{scalar, scalars, encode, encodes}
-use Rattle.cd_value.specs.Identifier.{is_control, is_slash}
-use Rattle.cd_value.specs.Clean.{longest_front, clean_byte}
+use Rattle.std.specs.Fmt.Cut.{floor_char_boundary}
+use Rattle.std.specs.Fmt.{is_char_start}
+use Rattle.std.specs.Prelude.{nat_le, ◌⊎◌}
+use Rattle.std.specs.Str.{IsCharBoundary, IsUtf8}
+use lib.Utf8.{encode, encodes, scalar, scalars}
 
 -- ---- the longest front
 

@@ -1,17 +1,17 @@
 -- What the name of an identifier reads as.
-use Rattle.std.proofs.Common.{◌≡◌, ℕ, suc, ◌+◌, ◌<◌, ◌≤◌, Bool, true, false, not, ◌||◌, cond, List, [], ◌∷◌, ◌++◌, length, take, drop, refl, ap, sym, ◌∙◌, subst, arith, append_assoc, append-nil}
-use Rattle.std.specs.Prelude.{nat_lt, count_by, Ok, Err}
-use Rattle.std.specs.List.{list_any, list_all, position_or_len, before_first, after_first}
-use Rattle.std.proofs.Math.Seq.{take-append_seam, drop-append-add, take-length}
-use Rattle.std.proofs.lemmas.List.{take-append-le, length-take}
-use Rattle.std.proofs.Math.Bool.{or-false}
-use Rattle.cd_value.specs.declared.identifier.IdFault.TheVariants.{BadIdentifier, FieldTooLong}
-use Rattle.std.proofs.Math.ListN.{drop_of_length-le}
-use Rattle.std.proofs.lemmas.List.Folds.{list_any-append}
-use Rattle.std.proofs.lemmas.Bool.{and_parts, le-ltb, eqb-true}
-use Rattle.cd_value.specs.Identifier.{Fields, is_control, is_slash, is_dash, is_empty, is_type_byte, is_identifier, plugin_part, type_part, fields_of, has_bad_field, has_long_field, is_bad_text, read_identifier, dashed, name_of, as_named, read_of_name}
-use Rattle.cd_value.proofs.Readable.{IsWhole, whole, field_lengths}
 use Rattle.cd_value.proofs.Cuts.{count_by_after_first, place_behind, place_none}
+use Rattle.cd_value.proofs.Readable.{IsWhole, field_lengths, whole}
+use Rattle.cd_value.specs.Identifier.{Fields, as_named, dashed, fields_of, has_bad_field, has_long_field, is_bad_text, is_control, is_dash, is_empty, is_identifier, is_slash, is_type_byte, name_of, plugin_part, read_identifier, read_of_name, type_part}
+use Rattle.cd_value.specs.declared.identifier.IdFault.TheVariants.{BadIdentifier, FieldTooLong}
+use Rattle.std.proofs.Common.{Bool, List, [], ap, append-nil, append_assoc, arith, cond, drop, false, length, not, refl, subst, suc, sym, take, true, ℕ, ◌++◌, ◌+◌, ◌<◌, ◌||◌, ◌∙◌, ◌∷◌, ◌≡◌, ◌≤◌}
+use Rattle.std.proofs.Math.Bool.{or-false}
+use Rattle.std.proofs.Math.ListN.{drop_of_length-le}
+use Rattle.std.proofs.Math.Seq.{drop-append-add, take-append_seam, take-length}
+use Rattle.std.proofs.lemmas.Bool.{and_parts, eqb-true, le-ltb}
+use Rattle.std.proofs.lemmas.List.Folds.{list_any-append}
+use Rattle.std.proofs.lemmas.List.{length-take, take-append-le}
+use Rattle.std.specs.List.{after_first, before_first, list_all, list_any, position_or_len}
+use Rattle.std.specs.Prelude.{Err, Ok, count_by, nat_lt}
 
 -- ---- a text cut at a byte that passes
 

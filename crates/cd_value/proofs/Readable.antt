@@ -1,10 +1,10 @@
 -- The fields of a text without a fault make an identifier.
-use Rattle.std.proofs.Common.{◌≡◌, ℕ, Bool, true, false, not, ◌||◌, ◌&&◌, ◌≤◌, List, length, refl}
+use Rattle.cd_value.proofs.Cuts.{list_any_before_first, list_any_drop, list_any_take}
+use Rattle.cd_value.specs.Identifier.{Fields, fields_of, has_bad_field, has_long_field, is_control, is_empty, is_field, is_identifier, is_slash, is_type_byte, plugin_part, type_part}
+use Rattle.std.proofs.Common.{Bool, List, false, length, not, refl, true, ℕ, ◌&&◌, ◌||◌, ◌≡◌, ◌≤◌}
+use Rattle.std.proofs.lemmas.Bool.{and_parts, le-leb, leb-true, ltb-false, not-false, not-true, or_parts}
+use Rattle.std.specs.List.{after_first, list_all, list_any}
 use Rattle.std.specs.Prelude.{nat_le, nat_lt}
-use Rattle.std.specs.List.{list_any, list_all, after_first}
-use Rattle.std.proofs.lemmas.Bool.{or_parts, and_parts, not-true, not-false, ltb-false, le-leb, leb-true}
-use Rattle.cd_value.specs.Identifier.{Fields, is_control, is_slash, is_empty, is_type_byte, is_field, is_identifier, plugin_part, type_part, fields_of, has_bad_field, has_long_field}
-use Rattle.cd_value.proofs.Cuts.{list_any_take, list_any_drop, list_any_before_first}
 
 short : (bytes : List ℕ) → nat_lt 127 (length bytes) ≡ false → nat_le (length bytes) 127 ≡ true
 short bytes e = le-leb (length bytes) 127 (ltb-false 127 (length bytes) e)

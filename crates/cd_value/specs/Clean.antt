@@ -1,8 +1,8 @@
 -- Texts made fit to be fields of an identifier.
-use Rattle.std.specs.Prelude.{ℕ, Bool, not, ◌&&◌, ◌||◌, List, length, take, map, nat_le, if◌then◌else◌}
-use Rattle.std.specs.Fmt.Cut.{floor_char_boundary}
-use Rattle.cd_value.specs.declared.numbers.TheConstants.{FIELD_LIMIT}
 use Rattle.cd_value.specs.Identifier.{has_slash, is_control, is_empty, is_field, is_slash}
+use Rattle.cd_value.specs.declared.numbers.TheConstants.{FIELD_LIMIT}
+use Rattle.std.specs.Fmt.Cut.{floor_char_boundary}
+use Rattle.std.specs.Prelude.{Bool, List, if◌then◌else◌, length, map, nat_le, not, take, ℕ, ◌&&◌, ◌||◌}
 
 -- the longest front of a text that has at most so many bytes and ends where a character does
 abbrev pub longest_front : ℕ → List ℕ → List ℕ

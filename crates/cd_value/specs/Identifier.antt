@@ -1,9 +1,9 @@
 -- Which fields make an identifier, and which identifier a text is.
-use Rattle.std.specs.Prelude.{ℕ, Bool, true, false, not, ◌&&◌, ◌||◌, ◌==◌, nat_le, nat_lt, List, [], ◌∷◌, ◌++◌, length, count_by, Result, Ok, Err, if◌then◌else◌}
-use Rattle.std.specs.List.{list_all, list_any, before_first, after_first}
+use Rattle.cd_value.specs.declared.identifier.IdFault.TheVariants.{BadIdentifier, FieldTooLong}
 use Rattle.cd_value.specs.declared.identifier.IdFault.{IdFault}
 use Rattle.cd_value.specs.declared.numbers.TheConstants.{FIELD_LIMIT}
-use Rattle.cd_value.specs.declared.identifier.IdFault.TheVariants.{BadIdentifier, FieldTooLong}
+use Rattle.std.specs.List.{after_first, before_first, list_all, list_any}
+use Rattle.std.specs.Prelude.{Bool, Err, List, Ok, Result, [], count_by, false, if◌then◌else◌, length, nat_le, nat_lt, not, true, ℕ, ◌&&◌, ◌++◌, ◌==◌, ◌||◌, ◌∷◌}
 
 -- an identifier as contracts see it: its five fields
 pub record Fields : Type 0 where

@@ -1,6 +1,6 @@
 -- An identifier as contracts see it, of its fields in the program.
-use Rattle.cd_value.specs.declared.identifier.Identifier.TheInside.{Inside}
 use Rattle.cd_value.specs.Identifier.{Fields}
+use Rattle.cd_value.specs.declared.identifier.Identifier.TheInside.{Inside}
 
 abbrev pub fields : Inside → Fields
 fields id = record {

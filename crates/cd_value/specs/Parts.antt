@@ -1,10 +1,10 @@
 -- The parts of an identifier's text, and its faults.
-use Rattle.std.specs.Prelude.{◌≡◌, ◌+◌, ℕ, List, Err, count_by}
-use Rattle.std.specs.List.{before_first, after_first}
-use Rattle.cd_value.specs.declared.identifier.IdFault.{IdFault}
-use Rattle.cd_value.specs.declared.identifier.IdFault.TheVariants.{BadIdentifier, FieldTooLong, Memory}
-use Rattle.cd_value.specs.declared.identifier.Parts.{Parts}
 use Rattle.cd_value.specs.Identifier.{Fields, is_slash, read_identifier}
+use Rattle.cd_value.specs.declared.identifier.IdFault.TheVariants.{BadIdentifier, FieldTooLong, Memory}
+use Rattle.cd_value.specs.declared.identifier.IdFault.{IdFault}
+use Rattle.cd_value.specs.declared.identifier.Parts.{Parts}
+use Rattle.std.specs.List.{after_first, before_first}
+use Rattle.std.specs.Prelude.{Err, List, count_by, ℕ, ◌+◌, ◌≡◌}
 
 -- the fields that stand in parts of a text
 abbrev pub shown : Parts → Fields

@@ -1,9 +1,9 @@
 -- How numbers of millionths and rates are printed.
-use Rattle.std.specs.Prelude.{ℕ, ◌+◌, ◌/◌, ◌%◌, ◌^◌, List, [], ◌∷◌, ◌++◌, ℤ, pos, negsuc, suc, Option, Some, None, codes}
-use Rattle.std.specs.Fmt.{decimal}
+use Rattle.cd_value.specs.Rates.{millionths}
 use Rattle.cd_value.specs.declared.data.Rate.{Rate}
 use Rattle.cd_value.specs.declared.numbers.TheConstants.{MILLIONTHS}
-use Rattle.cd_value.specs.Rates.{millionths}
+use Rattle.std.specs.Fmt.{decimal}
+use Rattle.std.specs.Prelude.{List, None, Option, Some, [], codes, negsuc, pos, suc, ℕ, ℤ, ◌%◌, ◌++◌, ◌+◌, ◌/◌, ◌^◌, ◌∷◌}
 
 -- the last decimal digit of a number
 abbrev pub digit : ℕ → ℕ

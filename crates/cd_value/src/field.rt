@@ -1,8 +1,8 @@
 //! Texts made fit to be fields of an identifier.
-ghost use Rattle.std.specs.Prelude.{◌≡◌, ◌<◌, ◌≤◌, ℕ, false, length, take, map, IfOk, IsTrue};
-ghost use Rattle.std.specs.Str.{IsCharBoundary};
 ghost use Rattle.cd_value.specs.Clean.{clean_byte, clean_field, field_or_old, is_clean, longest_front};
 ghost use Rattle.cd_value.specs.Identifier.{has_slash, is_control, is_empty, is_field};
+ghost use Rattle.std.specs.Prelude.{IfOk, IsTrue, false, length, map, take, ℕ, ◌<◌, ◌≡◌, ◌≤◌};
+ghost use Rattle.std.specs.Str.{IsCharBoundary};
 
 use crate::{FIELD_LIMIT, Memory, Text, TryCopy};
 use std::alloc::Global;

@@ -1,8 +1,8 @@
 //! The identifier of a value list.
-ghost use Rattle.std.specs.Prelude.{◌≡◌, ◌<◌, ◌≤◌, ◌+◌, ◌++◌, ◌↔◌, false, IsTrue, IfOk, IfErr, OnOk, MatchOption, count_by};
-ghost use Rattle.std.specs.List.{before_first, after_first, list_all};
-ghost use Rattle.cd_value.specs.Parts.{IsCutAtSlash, IsFaultOf, shown};
 ghost use Rattle.cd_value.specs.Identifier.{as_named, dashed, fields_of, has_bad_field, has_control, has_dash, has_long_field, is_bad_text, is_dash, is_identifier, is_long_text, is_slash, is_type_byte, name_of, read_identifier, read_of_name};
+ghost use Rattle.cd_value.specs.Parts.{IsCutAtSlash, IsFaultOf, shown};
+ghost use Rattle.std.specs.List.{after_first, before_first, list_all};
+ghost use Rattle.std.specs.Prelude.{IfErr, IfOk, IsTrue, MatchOption, OnOk, count_by, false, ◌++◌, ◌+◌, ◌<◌, ◌↔◌, ◌≡◌, ◌≤◌};
 
 use crate::field::is_control;
 use crate::{FIELD_LIMIT, Memory, Text, TryCopy};
@@ -45,8 +45,8 @@ pub struct Identifier {
 }
 
 impl Model for Identifier {
-    ghost use Rattle.std.specs.Prelude.{IsTrue};
     ghost use Rattle.cd_value.specs.Identifier.{Fields, is_identifier};
+    ghost use Rattle.std.specs.Prelude.{IsTrue};
 
     ghost Value = { Fields };
 

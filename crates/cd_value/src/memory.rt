@@ -1,5 +1,5 @@
 //! Want of memory, values that are handed back, and copies.
-ghost use Rattle.std.specs.Prelude.{◌≡◌, IfOk};
+ghost use Rattle.std.specs.Prelude.{IfOk, ◌≡◌};
 
 use std::alloc::{AllocError, AllocFailed, Global};
 

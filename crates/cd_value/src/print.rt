@@ -1,7 +1,7 @@
 //! Printed numbers.
-ghost use Rattle.std.specs.Prelude.{◌≡◌, ◌++◌, ◌∷◌, [], IfOk, OnOk, codes, false, string_bytes};
 ghost use Rattle.cd_value.specs.Print.{digit, millionths_text, rate_text, six_digits};
 ghost use Rattle.cd_value.specs.Rates.{is_known};
+ghost use Rattle.std.specs.Prelude.{IfOk, OnOk, [], codes, false, string_bytes, ◌++◌, ◌∷◌, ◌≡◌};
 
 use crate::{MILLIONTHS, Memory, Rate, Text};
 use std::alloc::{AllocError, Global};

@@ -1,8 +1,8 @@
 //! Rates of values against the values before them.
-ghost use Rattle.std.specs.Prelude.{◌≡◌, ◌≤◌, ◌^◌, ◌≤ℤ◌, pos, negsuc, int_le, ◌*ℤ◌, false, is_some, IfSome, IsNone, IsTrue};
-ghost use Rattle.std.specs.Option.{option_copied};
-ghost use Rattle.cd_value.specs.Rates.{IsCutOf, IsOfCount, LeadsTo, is_gauge, is_known, rate_of, rate_of_change};
 ghost use Rattle.cd_value.specs.Rates as rates;
+ghost use Rattle.cd_value.specs.Rates.{IsCutOf, IsOfCount, LeadsTo, is_gauge, is_known, rate_of, rate_of_change};
+ghost use Rattle.std.specs.Option.{option_copied};
+ghost use Rattle.std.specs.Prelude.{IfSome, IsNone, IsTrue, false, int_le, is_some, negsuc, pos, ◌*ℤ◌, ◌^◌, ◌≡◌, ◌≤ℤ◌, ◌≤◌};
 
 use crate::{DataSource, MILLIONTHS, Rate, SECOND, Value, WRAP_OF_32_BITS};
 

@@ -1,5 +1,5 @@
 //! A list of values that contracts see as a list.
-ghost use Rattle.std.specs.Prelude.{◌≡◌, ◌==◌, ◌++◌, [], ◌∷◌, length, OnOk, OnErr};
+ghost use Rattle.std.specs.Prelude.{OnErr, OnOk, [], length, ◌++◌, ◌==◌, ◌∷◌, ◌≡◌};
 
 use crate::{Memory, TryCopy};
 use std::alloc::Global;

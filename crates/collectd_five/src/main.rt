@@ -1,10 +1,10 @@
-//! A run over five lines in memory, for want of memory: `bench/each-allocation` makes each of its allocations fail, one in
-//! each run. Its status is 0 where the run ended well: all lines were answered, or it ended with want of memory, what was
-//! said is a beginning of the replies, and the writer is back. It is 1 where it ended otherwise, and 2 where memory was
-//! lacking for what the run is given, or for keeping what it said.
+//! A run over five lines in memory, for want of memory: `bench/each-allocation` makes each of its allocations fail,
+//! one in each run. Its status is 0 where the run ended well: all lines were answered, or it ended with want of
+//! memory, what was said is a beginning of the replies, and the writer is back. It is 1 where it ended otherwise, and
+//! 2 where memory was lacking for what the run is given, or for keeping what it said.
 #![tactic(auto)]
 
-ghost use Rattle.std.specs.Prelude.{◌≤◌, IfOk, length};
+ghost use Rattle.std.specs.Prelude.{IfOk, length, ◌≤◌};
 
 use cd_io::{LinkPlan, MemLink, MemWorld};
 use cd_registry::{Kinds, Telling};

@@ -1,5 +1,5 @@
 //! A reader as a source.
-ghost use Rattle.std.specs.Prelude.{◌≡◌, ◌≤◌, IfOk, None, length};
+ghost use Rattle.std.specs.Prelude.{IfOk, None, length, ◌≡◌, ◌≤◌};
 
 use crate::{Failed, Source};
 use std::io::{self, ErrorKind, Read};

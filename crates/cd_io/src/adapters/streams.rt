@@ -1,7 +1,7 @@
 //! A reader and a writer as a link.
-ghost use Rattle.std.specs.Prelude.{◌≡◌, ◌≤◌, ◌<◌, IfOk, length};
+ghost use Rattle.cd_io.specs.Link.{Says, counts_alone};
 ghost use Rattle.std.specs.Io.KnownBytes.{WriteAppends};
-ghost use Rattle.cd_io.specs.Link.{counts_alone, Says};
+ghost use Rattle.std.specs.Prelude.{IfOk, length, ◌<◌, ◌≡◌, ◌≤◌};
 
 use crate::{Failed, Heard, Link};
 use std::io::{self, ErrorKind, Read, Write};
@@ -12,8 +12,8 @@ use std::time::{Clock, Duration};
 /// How many milliseconds pass before a call that would block is tried again.
 const PAUSE: u64 = 1;
 
-/// A reader and a writer as a link, as standard input and standard output. The writer is to keep nothing back, as theirs,
-/// files and sockets don't: it isn't flushed, and the bytes that it took are said.
+/// A reader and a writer as a link, as standard input and standard output. The writer is to keep nothing back, as
+/// theirs, files and sockets don't: it isn't flushed, and the bytes that it took are said.
 ///
 /// A call that was interrupted is tried again, and so is one that would block, after a pause of a millisecond. A read
 /// that timed out is quiet; any other error is a fault.

@@ -1,5 +1,5 @@
 //! The real world.
-ghost use Rattle.std.specs.Prelude.{◌≡◌, None};
+ghost use Rattle.std.specs.Prelude.{None, ◌≡◌};
 
 use crate::{Clock, OutFault, ReaderSource, RealClock, RealDice, World};
 use std::io::ErrorKind;

@@ -1,5 +1,5 @@
 //! Dice in memory.
-ghost use Rattle.std.specs.Prelude.{◌≡◌, Some};
+ghost use Rattle.std.specs.Prelude.{Some, ◌≡◌};
 
 use crate::Dice;
 

@@ -1,7 +1,7 @@
 //! Files in memory.
-ghost use Rattle.std.specs.Prelude.{◌≡◌, ◌≤◌, [], ◌∷◌, length, map, IfOk, IfSome, IsSome, OnErr};
 ghost use Rattle.std.specs.List.{slice_get};
 ghost use Rattle.std.specs.Option.{option_map};
+ghost use Rattle.std.specs.Prelude.{IfOk, IfSome, IsSome, OnErr, [], length, map, ◌∷◌, ◌≡◌, ◌≤◌};
 ghost use Rattle.std.specs.Str.{bytes_eq};
 
 use crate::{MemSource, Source, SourcePlan};

@@ -1,6 +1,6 @@
 //! A link in memory.
-ghost use Rattle.std.specs.Prelude.{◌≡◌, ◌≤◌, ◌<◌, ◌-◌, ◌^◌, [], ℕ, length, None, Some, Ok, IfOk, is_err, MatchOption};
-ghost use Rattle.cd_io.specs.Link.{heard_count, Hears, is_quiet, Says};
+ghost use Rattle.cd_io.specs.Link.{Hears, Says, heard_count, is_quiet};
+ghost use Rattle.std.specs.Prelude.{IfOk, MatchOption, None, Ok, Some, [], is_err, length, ℕ, ◌-◌, ◌<◌, ◌^◌, ◌≡◌, ◌≤◌};
 
 use crate::{Failed, Heard, Link};
 use std::alloc::Global;

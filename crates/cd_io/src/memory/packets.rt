@@ -1,8 +1,8 @@
 //! A source of datagrams in memory.
-ghost use Rattle.std.specs.Prelude.{◌≡◌, ◌≤◌, [], length, map, take, is_err};
-ghost use Rattle.cd_io.specs.Link.{heard_count, is_quiet};
 ghost use Rattle.cd_io.specs.Datagrams.{as_datagram};
+ghost use Rattle.cd_io.specs.Link.{heard_count, is_quiet};
 ghost use Rattle.cd_io.specs.Packets.{Nexts};
+ghost use Rattle.std.specs.Prelude.{[], is_err, length, map, take, ◌≡◌, ◌≤◌};
 
 use crate::{DATAGRAM_LIMIT, Failed, Heard, Packets};
 use std::alloc::Global;

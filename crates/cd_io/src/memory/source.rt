@@ -1,6 +1,6 @@
 //! A source in memory.
-ghost use Rattle.std.specs.Prelude.{◌≡◌, ◌≤◌, ◌-◌, ◌^◌, [], ℕ, length, IfOk, is_err};
-ghost use Rattle.cd_io.specs.Source.{read_count, Reads};
+ghost use Rattle.cd_io.specs.Source.{Reads, read_count};
+ghost use Rattle.std.specs.Prelude.{IfOk, [], is_err, length, ℕ, ◌-◌, ◌^◌, ◌≡◌, ◌≤◌};
 
 use crate::{Failed, Source};
 use std::alloc::{AllocError, Global};

@@ -1,5 +1,5 @@
 //! A clock in memory.
-ghost use Rattle.std.specs.Prelude.{◌≡◌, Some};
+ghost use Rattle.std.specs.Prelude.{Some, ◌≡◌};
 
 use crate::Clock;
 

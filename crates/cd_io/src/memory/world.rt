@@ -1,11 +1,11 @@
 //! A world in memory.
-ghost use Rattle.std.specs.Prelude.{◌≡◌, ◌<◌, true, [], ◌∷◌, ◌++◌, length, map, Some, IfOk, IfSome, IsSome, OnOk, OnErr};
-ghost use Rattle.std.specs.List.{position};
-ghost use Rattle.std.specs.Option.{option_map};
-ghost use Rattle.std.specs.Str.{bytes_eq};
 ghost use Rattle.cd_io.specs.MemFile.{after_answer, plan_at, plan_of, shown};
 ghost use Rattle.cd_io.specs.MemSource.{BeginsBy, told_first};
-ghost use Rattle.cd_io.specs.World.{is_opening_fault, opening, Opens};
+ghost use Rattle.cd_io.specs.World.{Opens, is_opening_fault, opening};
+ghost use Rattle.std.specs.List.{position};
+ghost use Rattle.std.specs.Option.{option_map};
+ghost use Rattle.std.specs.Prelude.{IfOk, IfSome, IsSome, OnErr, OnOk, Some, [], length, map, true, ◌++◌, ◌<◌, ◌∷◌, ◌≡◌};
+ghost use Rattle.std.specs.Str.{bytes_eq};
 
 use crate::{MemClock, MemDice, MemFile, MemSource, OutFault, Source, World};
 use std::alloc::{AllocError, Global};

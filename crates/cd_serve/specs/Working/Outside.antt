@@ -18,7 +18,8 @@ after_word pairs = record { clock = pairs.clock; dice = option_map dice_after pa
 -- these are the first numbers of what tells, and then it tells the last pair
 abbrev pub GaveUpTo : (ℕ × ℕ → ℕ × ℕ) → Option (ℕ × ℕ) → List ℕ → Option (ℕ × ℕ) → Type 0
 GaveUpTo after begun [] last = last ≡ begun
-GaveUpTo after begun (n ∷ numbers) last = IfSome begun (λ pair. n ≡ pair.0) × GaveUpTo after (option_map after begun) numbers last
+GaveUpTo after begun (n ∷ numbers) last =
+    IfSome begun (λ pair. n ≡ pair.0) × GaveUpTo after (option_map after begun) numbers last
 
 -- a clock and dice gave what was given, in order, and then tell the last pairs
 pub record GaveAllUpTo (begun last : Pairs) (given : List Given) : Type 0 where

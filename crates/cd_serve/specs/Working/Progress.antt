@@ -2,10 +2,10 @@
 use Rattle.cd_cache.specs.Cache.{CacheMap, cached, empty}
 use Rattle.cd_cache.specs.Rows.{rows_of}
 use Rattle.cd_daemon.specs.Answers.{found_in}
-use Rattle.cd_daemon.specs.Handling.{stored}
+use Rattle.cd_daemon.specs.Handling.{set_of, stored}
 use Rattle.cd_daemon.specs.declared.Opening.{Opening}
-use Rattle.cd_daemon.specs.declared.TheConstants.{INTERVAL, TIMEOUT}
 use Rattle.cd_history.specs.History.{History}
+use Rattle.cd_history.specs.Order.{IsFrontOf}
 use Rattle.cd_history.specs.Registrations.{has_kind}
 use Rattle.cd_history.specs.declared.given.Given.TheVariants.{Answered, Now, Word}
 use Rattle.cd_history.specs.declared.given.Given.{Given}
@@ -25,9 +25,8 @@ use Rattle.cd_sock.specs.declared.command.Command.TheVariants as command
 use Rattle.cd_sock.specs.declared.command.Command.{Command}
 use Rattle.cd_sock.specs.declared.reply.Reply.TheVariants as replies
 use Rattle.cd_sock.specs.declared.reply.Reply.{Reply}
-use Rattle.cd_transcript.specs.LineRuns.{IsAsked, OnShelf, Opens, ServesLines, Works}
+use Rattle.cd_transcript.specs.LineRuns.{IsAsked, OnShelf, ServesLines, Works}
 use Rattle.cd_transcript.specs.Transcripts.{IsTranscript, found_reply, line_says, of_lines}
-use Rattle.cd_types.specs.Types.{builtin}
 use Rattle.cd_value.specs.Identifier.{name_of}
 use Rattle.cd_value.specs.declared.data.DataSet.{DataSet}
 use Rattle.cd_value.specs.declared.data.ValueList.{ValueList}
@@ -35,45 +34,43 @@ use Rattle.std.specs.Prelude.{Bool, List, Ok, [], false, length, map, not, ℕ, 
 
 -- what is seen of a daemon
 pub record Seen : Type 0 where
-  pub types : List DataSet
-  pub interval : ℕ
+  pub opening : Opening
   pub shelf : List OnShelf
   pub writer : Bool
   pub cache : CacheMap
   pub given : List Given
   pub pairs : Pairs
 
-abbrev pub opening_of : Seen → Opening
-opening_of seen = record { types = seen.types; interval = seen.interval; timeout = seen.cache.timeout }
-
--- a daemon that began like this has served these lines, and this text was written
-pub record HasServed (begun : Seen) (lines : List Cut) (text : List ℕ) (seen : Seen) : Type 0 where
-  pub opened : History
+-- a daemon that began like this, and was opened with this history, has served these lines, and this text was written
+pub record HasServed (begun : Seen) (opened : History) (lines : List Cut) (text : List ℕ) (seen : Seen) : Type 0 where
   pub past : History
-  pub types : seen.types ≡ begun.types
-  pub interval : seen.interval ≡ begun.interval
-  pub runs : RunsOn (opening_of begun) begun.shelf seen.shelf seen.writer [] seen.cache past
-  pub opens : Opens begun.shelf [] [] opened
-  pub serves : ServesLines (opening_of begun) (line_says (opening_of begun)) lines opened seen.given past
-  pub written : IsTranscript (line_says (opening_of begun)) lines (of_lines past) text
+  pub opening : seen.opening ≡ begun.opening
+  pub runs : RunsOn begun.opening begun.shelf seen.shelf seen.writer [] seen.cache past
+  pub serves : ServesLines begun.opening (line_says begun.opening) lines opened seen.given past
+  pub written : IsTranscript (line_says begun.opening) lines (of_lines past) text
   pub gave : GaveAllUpTo begun.pairs seen.pairs seen.given
 
+-- .. and then one line more, with this reply; what came before is the front of the history
+pub record HasServedOneMore {begun : Seen} {opened : History} {lines : List Cut} {text : List ℕ} {old : Seen}
+    (before : HasServed begun opened lines text old) (line : Cut) (reply : List ℕ) (new : Seen) : Type 0 where
+  pub served : HasServed begun opened (lines ++ line ∷ []) (text ++ reply) new
+  pub front : IsFrontOf before.past served.past
+
 -- it works from a history on, and these lists are queued
-pub record IsWorking (begun : Seen) (start : History) (before : List Given) (queue : List ValueList) (seen : Seen) : Type 0 where
+pub record IsWorking (begun : Seen) (start : History)
+    (before : List Given) (queue : List ValueList) (seen : Seen) : Type 0 where
   pub past : History
-  pub types : seen.types ≡ begun.types
-  pub interval : seen.interval ≡ begun.interval
-  pub runs : RunsOn (opening_of begun) begun.shelf seen.shelf seen.writer queue seen.cache past
+  pub opening : seen.opening ≡ begun.opening
+  pub runs : RunsOn begun.opening begun.shelf seen.shelf seen.writer queue seen.cache past
   pub given : List Given
   pub follows : seen.given ≡ before ++ given
-  pub works : Works (opening_of begun) IsAsked start given past
+  pub works : Works begun.opening IsAsked start given past
   pub gave : GaveAllUpTo begun.pairs seen.pairs seen.given
 
 -- what is seen of a daemon, where these say what its outside tells
 abbrev pub seen_of : {O : Type 0} → (O → Pairs) → (O → List OnShelf) → Daemon O → Seen
 seen_of pairs shelf daemon = record {
-  types = daemon.types;
-  interval = daemon.interval;
+  opening = record { types = daemon.types; globals = daemon.globals };
   shelf = shelf daemon.outside;
   writer = daemon.writer;
   cache = daemon.cache;
@@ -100,15 +97,21 @@ pub record Rolled (count : ℕ) (old new : Seen) : Type 0 where
   pub words : List ℕ
   pub many : length words ≡ count
   pub gave : GaveUpTo dice_after old.pairs.dice words new.pairs.dice
-  pub seen : new ≡ record old { given = old.given ++ map Word words; pairs = record { clock = old.pairs.clock; dice = new.pairs.dice } }
+  pub seen : new ≡ record old {
+    given = old.given ++ map Word words;
+    pairs = record { clock = old.pairs.clock; dice = new.pairs.dice };
+  }
 
 -- after a list came to the cache at a moment
 abbrev pub with_list : ValueList → ℕ → Seen → Seen
-with_list list now seen = record seen { cache = stored seen.types list now seen.cache }
+with_list list now seen = record seen { cache = stored (set_of seen.opening.types list) list now seen.cache }
 
 -- after the first plug-in was called and gave that answer
 abbrev pub with_answer : Call → Answer → Seen → Seen
-with_answer call answer seen = record seen { shelf = called_first call answer seen.shelf; given = seen.given ++ Answered answer ∷ [] }
+with_answer call answer seen = record seen {
+  shelf = called_first call answer seen.shelf;
+  given = seen.given ++ Answered answer ∷ [];
+}
 
 -- the first plug-in was called, where there is one
 abbrev pub WasCalled : Call → Seen → Seen → Type 0
@@ -134,12 +137,14 @@ pub record Puts (lists : List ValueList) (old new : Seen) : Type 0 where
 abbrev pub Obeys : Command → Reply → Seen → Seen → Type 0
 Obeys command.Blank reply old new = Unit {0}
 Obeys (command.PutVal lists) reply old new = (reply ≡ replies.Success) × Puts lists old new
-Obeys (command.GetVal id) reply old new = (new ≡ old) × (reply ≡ found_reply (found_in old.types (cached (name_of id) old.cache)))
+Obeys (command.GetVal id) reply old new =
+    (new ≡ old) × (reply ≡ found_reply (found_in old.opening.types (cached (name_of id) old.cache)))
 Obeys command.ListVal reply old new = (new ≡ old) × (reply ≡ replies.Listed (rows_of old.cache))
 
 -- a line was served with this reply
 abbrev pub Serves : Cut → List ℕ → Seen → Seen → Type 0
-Serves line reply old new = (begun : Seen) (lines : List Cut) (text : List ℕ) → HasServed begun lines text old → HasServed begun (lines ++ line ∷ []) (text ++ reply) new
+Serves line reply old new = (begun : Seen) (opened : History) (lines : List Cut) (text : List ℕ)
+    (before : HasServed begun opened lines text old) → HasServedOneMore before line reply new
 
 -- .. and all objects stand in their places
 pub record IsServed (line : Cut) (reply : List ℕ) (old new : Seen) : Type 0 where
@@ -154,19 +159,23 @@ KeepsPlaces shelf old new = places (shelf new.outside) ≡ places (shelf old.out
 abbrev pub IsNotBlank : List ℕ → Type 0
 IsNotBlank line = (types : List DataSet) (now interval : ℕ) → meaning types now interval line ≡ Ok command.Blank → ⊥
 
--- the first plug-in of a shelf is registered and called with lists
-abbrev pub writes_first : List OnShelf → Bool
-writes_first [] = false
-writes_first (plug ∷ plugs) = not (is_reserved plug.name) && has_kind WRITE (registration_of plug)
+-- the first plug-in of a shelf is loaded, registered and called with lists
+abbrev pub writes_first : (List ℕ → Bool) → List OnShelf → Bool
+writes_first loads [] = false
+writes_first loads (plug ∷ plugs) =
+    loads plug.name && not (is_reserved plug.name) && has_kind WRITE (registration_of plug)
 
--- a daemon before the first line
-abbrev pub opened : List OnShelf → Pairs → Seen
-opened shelf pairs = record {
-  types = builtin;
-  interval = INTERVAL;
+-- a daemon with nothing in its cache, and to which nothing was given
+abbrev pub begun_with : Opening → Bool → List OnShelf → Pairs → Seen
+begun_with K writer shelf pairs = record {
+  opening = K;
   shelf = shelf;
-  writer = writes_first shelf;
-  cache = empty TIMEOUT;
+  writer = writer;
+  cache = empty K.globals.timeout;
   given = [];
   pairs = pairs;
 }
+
+-- a daemon before the first line
+abbrev pub at_first : Opening → (List ℕ → Bool) → List OnShelf → Pairs → Seen
+at_first K loads shelf pairs = begun_with K (writes_first loads shelf) shelf pairs

@@ -4,7 +4,7 @@ use Rattle.cd_daemon.specs.Calls.{cache_after, calls_to}
 use Rattle.cd_daemon.specs.Legal.{IsLegal}
 use Rattle.cd_daemon.specs.declared.Opening.{Opening}
 use Rattle.cd_history.specs.History.{History, handles, is_stopped, kept}
-use Rattle.cd_history.specs.Leases.{answers_to, taken_by, takes}
+use Rattle.cd_history.specs.Leases.{taken_by, takes}
 use Rattle.cd_history.specs.Registrations.{Registration, has_kind, is_closed, is_plug, is_retired, registrations}
 use Rattle.cd_history.specs.declared.entry.Joining.TheVariants as joining
 use Rattle.cd_registry.specs.declared.kinds.TheConstants.Kinds.{WRITE}
@@ -14,7 +14,8 @@ use Rattle.std.specs.List.{filter}
 use Rattle.std.specs.Prelude.{Bool, List, None, [], false, length, true, ℕ, ◌++◌, ◌∷◌, ◌≡◌, ◌⊎◌}
 
 -- stopped or not, with these registrations, none of them closed, these lists in the queue and this cache
-pub record Standing (K : Opening) (stopped : Bool) (regs : List Registration) (queue : List ValueList) (cache : CacheMap) (P : History) : Type 0 where
+pub record Standing (K : Opening) (stopped : Bool) (regs : List Registration)
+    (queue : List ValueList) (cache : CacheMap) (P : History) : Type 0 where
   pub legal : IsLegal K P
   pub is_so : is_stopped P ≡ stopped
   pub registers : registrations P ≡ regs
@@ -25,7 +26,6 @@ pub record Standing (K : Opening) (stopped : Bool) (regs : List Registration) (q
   pub queued : kept P ≡ earlier ++ queue
   pub counted : handles P ≡ length earlier
   pub taken : (r : ℕ) → takes r P ≡ length (calls_to K r P)
-  pub answered : (r : ℕ) → length (answers_to r P) ≡ length (calls_to K r P)
   pub caches : cache_after K P ≡ cache
 
 -- a registration of a plug-in that is called with lists
@@ -50,9 +50,10 @@ Writes true (g ∷ gs) = IsWriter g
 Writes false gs = filter (has_kind WRITE) gs ≡ []
 
 -- the daemon of a run after a history, with a shelf that told `opened` at first and tells `shelf` now
-pub record RunsOn (K : Opening) (opened shelf : List OnShelf) (writer : Bool) (queue : List ValueList) (cache : CacheMap) (P : History) : Type 0 where
+pub record RunsOn (K : Opening) (opened shelf : List OnShelf) (writer : Bool)
+    (queue : List ValueList) (cache : CacheMap) (P : History) : Type 0 where
   pub regs : List Registration
   pub standing : Standing K false regs queue cache P
   pub of_shelf : AreOf opened regs
   pub writes : Writes writer regs
-  pub back : shelf ≡ returned K P opened
+  pub back : shelf ≡ returned P opened

@@ -1,9 +1,9 @@
+use Rattle.cd_conf.proofs.BlankRuns.{blank_first, join_first, none_first, other_first}
+use Rattle.cd_conf.proofs.blanks.blank.Goals as goal
+use Rattle.cd_conf.specs.Place.{position}
 use Rattle.std.proofs.Common.{sym, ◌∙◌}
 use Rattle.std.proofs.lemmas.Bool.{ne_eqb}
 use Rattle.std.specs.Str.{chars}
-use Rattle.cd_conf.specs.Place.{position}
-use Rattle.cd_conf.proofs.BlankRuns.{blank_first, other_first, none_first, join_first}
-use Rattle.cd_conf.proofs.blanks.blank.Goals as goal
 
 pub returns-in-None-clause-found : goal.returns-in-None-clause-found
 returns-in-None-clause-found c = none_first (position c.args.place) c.in-None.ensures.first

@@ -1,7 +1,7 @@
-use Rattle.std.proofs.Common.{◌∙◌, arith}
-use Rattle.cd_conf.specs.Place.{position}
 use Rattle.cd_conf.proofs.BlankRuns.{line_goes_on, newline_here, text_ends}
 use Rattle.cd_conf.proofs.blanks.next_line.Goals as goal
+use Rattle.cd_conf.specs.Place.{position}
+use Rattle.std.proofs.Common.{arith, ◌∙◌}
 
 pub returns-then-c-eq10-clause-place : goal.returns-then-c-eq10-clause-place
 returns-then-c-eq10-clause-place c =

@@ -1,7 +1,7 @@
-use Rattle.std.proofs.Common.{◌≡◌, ◌≤◌}
+use Rattle.cd_conf.proofs.blanks.next_line.Given as goal
 use Rattle.cd_conf.specs.Blanks.{next_line}
 use Rattle.cd_conf.specs.Place.{characters_left, position}
-use Rattle.cd_conf.proofs.blanks.next_line.Given as goal
+use Rattle.std.proofs.Common.{◌≡◌, ◌≤◌}
 
 abbrev pub invariant-loop-c : goal.invariant-loop-c
 invariant-loop-c l = record {

@@ -1,7 +1,7 @@
-use Rattle.std.proofs.Common.{◌≡◌, ◌≤◌}
+use Rattle.cd_conf.proofs.blanks.skip_blanks.Given as goal
 use Rattle.cd_conf.specs.Blanks.{behind_blanks}
 use Rattle.cd_conf.specs.Place.{characters_left, position}
-use Rattle.cd_conf.proofs.blanks.skip_blanks.Given as goal
+use Rattle.std.proofs.Common.{◌≡◌, ◌≤◌}
 
 abbrev pub invariant-loop-next : goal.invariant-loop-next
 invariant-loop-next l = record {

@@ -1,10 +1,10 @@
-use Rattle.std.proofs.Common.{arith, ap, ◌∙◌, List, ◌++◌, take, ◌≡◌, ◌≤◌, length}
-use Rattle.std.specs.List.{flat_map}
-use Rattle.cd_conf.specs.declared.item.Item.{Item}
-use Rattle.cd_conf.specs.Parts.{children_of}
-use Rattle.cd_conf.specs.Canonical.{deeper, item_text}
 use Rattle.cd_conf.proofs.Texts.{on_ok, whole}
 use Rattle.cd_conf.proofs.canonical.+push_item.Goals as goal
+use Rattle.cd_conf.specs.Canonical.{deeper, item_text}
+use Rattle.cd_conf.specs.Parts.{children_of}
+use Rattle.cd_conf.specs.declared.item.Item.{Item}
+use Rattle.std.proofs.Common.{List, ap, arith, length, take, ◌++◌, ◌∙◌, ◌≡◌, ◌≤◌}
+use Rattle.std.specs.List.{flat_map}
 
 pub returns : goal.returns
 returns t c =

@@ -1,8 +1,8 @@
-use Rattle.std.proofs.Common.{◌-◌, arith, lit<}
-use Rattle.std.proofs.Math.Nat.{one-le-pow}
-use Rattle.std.specs.String.{string_bytes}
 use Rattle.cd_conf.proofs.Decimals.{ends_at_last, ends_at_zero, puts_digit}
 use Rattle.cd_conf.proofs.canonical.push_decimals.Goals as goal
+use Rattle.std.proofs.Common.{arith, lit<, ◌-◌}
+use Rattle.std.proofs.Math.Nat.{one-le-pow}
+use Rattle.std.specs.String.{string_bytes}
 
 pub nonzero_div-rest : goal.nonzero_div-rest
 nonzero_div-rest c = let p = one-le-pow (c.loop-left.left - 1) 10 (lit< tt) in omega (arith, p, c.pow-unit.ensures)

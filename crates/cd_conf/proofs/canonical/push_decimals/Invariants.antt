@@ -1,8 +1,8 @@
-use Rattle.std.proofs.Common.{◌≡◌, ◌≤◌, ◌++◌}
-use Rattle.std.specs.String.{string_bytes}
+use Rattle.cd_conf.proofs.canonical.push_decimals.Given as goal
 use Rattle.cd_conf.specs.Canonical.{decimals}
 use Rattle.cd_conf.specs.declared.limits.TheConstants.{DECIMALS_LIMIT}
-use Rattle.cd_conf.proofs.canonical.push_decimals.Given as goal
+use Rattle.std.proofs.Common.{◌++◌, ◌≡◌, ◌≤◌}
+use Rattle.std.specs.String.{string_bytes}
 
 abbrev pub invariant-loop-left : goal.invariant-loop-left
 invariant-loop-left l = record {

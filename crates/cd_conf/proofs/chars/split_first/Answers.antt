@@ -1,6 +1,6 @@
-use Rattle.std.proofs.Common.{◌∙◌, sym}
-use Rattle.std.proofs.lemmas.Str.{chars_past_char}
 use Rattle.cd_conf.proofs.chars.split_first.Goals as goal
+use Rattle.std.proofs.Common.{sym, ◌∙◌}
+use Rattle.std.proofs.lemmas.Str.{chars_past_char}
 
 pub returns-clause-first : goal.returns-clause-first
 returns-clause-first c =

@@ -1,9 +1,9 @@
-use Rattle.std.proofs.Common.{◌-◌, ◌∙◌, ℕ, length, refl, ap, sym, arith}
-use Rattle.std.specs.Str.Parse.{digits_value, digits_value_after}
-use Rattle.cd_conf.specs.Numbers.{at_most, millionths_limit}
-use Rattle.cd_conf.specs.declared.limits.TheConstants.{DECIMALS_LIMIT}
 use Rattle.cd_conf.proofs.Magnitudes.{above_digits, above_power, within}
 use Rattle.cd_conf.proofs.numbers.value_of.Goals as goal
+use Rattle.cd_conf.specs.Numbers.{at_most, millionths_limit}
+use Rattle.cd_conf.specs.declared.limits.TheConstants.{DECIMALS_LIMIT}
+use Rattle.std.proofs.Common.{ap, arith, length, refl, sym, ℕ, ◌-◌, ◌∙◌}
+use Rattle.std.specs.Str.Parse.{digits_value, digits_value_after}
 
 pub returns-in-None : goal.returns-in-None
 returns-in-None c =

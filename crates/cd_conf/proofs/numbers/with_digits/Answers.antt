@@ -1,9 +1,9 @@
-use Rattle.std.proofs.Common.{◌+◌, ◌*◌, ℕ, ap, sym, ◌∙◌, arith, drop, get_or}
-use Rattle.std.specs.Char.{digit_value}
-use Rattle.std.specs.Str.Parse.{digits_value_after}
-use Rattle.cd_conf.specs.Numbers.{millionths_limit}
 use Rattle.cd_conf.proofs.Magnitudes.{above_digits, one_more, within}
 use Rattle.cd_conf.proofs.numbers.with_digits.Goals as goal
+use Rattle.cd_conf.specs.Numbers.{millionths_limit}
+use Rattle.std.proofs.Common.{ap, arith, drop, get_or, sym, ℕ, ◌*◌, ◌+◌, ◌∙◌}
+use Rattle.std.specs.Char.{digit_value}
+use Rattle.std.specs.Str.Parse.{digits_value_after}
 
 pub loop-digit-preserved : goal.loop-digit-preserved
 loop-digit-preserved c =

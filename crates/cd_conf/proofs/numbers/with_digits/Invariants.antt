@@ -1,7 +1,7 @@
-use Rattle.std.proofs.Common.{◌≡◌, ◌≤◌, drop}
-use Rattle.std.specs.Str.Parse.{digits_value_after}
-use Rattle.cd_conf.specs.Numbers.{millionths_limit}
 use Rattle.cd_conf.proofs.numbers.with_digits.Given as goal
+use Rattle.cd_conf.specs.Numbers.{millionths_limit}
+use Rattle.std.proofs.Common.{drop, ◌≡◌, ◌≤◌}
+use Rattle.std.specs.Str.Parse.{digits_value_after}
 
 abbrev pub invariant-loop-digit : goal.invariant-loop-digit
 invariant-loop-digit l = record {

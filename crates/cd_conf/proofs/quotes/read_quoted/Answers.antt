@@ -1,10 +1,10 @@
-use Rattle.std.proofs.Common.{◌∙◌, List, ℕ, ap, sym, arith}
-use Rattle.std.specs.Str.{chars}
-use Rattle.std.specs.String.{string_bytes}
-use Rattle.cd_conf.specs.Place.{position}
-use Rattle.cd_conf.specs.Quotes.{quoted_at, with_text}
 use Rattle.cd_conf.proofs.QuoteRuns.{adds, begins, breaks, closes, ended, marks}
 use Rattle.cd_conf.proofs.quotes.read_quoted.Goals as goal
+use Rattle.cd_conf.specs.Place.{position}
+use Rattle.cd_conf.specs.Quotes.{quoted_at, with_text}
+use Rattle.std.proofs.Common.{List, ap, arith, sym, ℕ, ◌∙◌}
+use Rattle.std.specs.Str.{chars}
+use Rattle.std.specs.String.{string_bytes}
 
 pub loop-c-init : goal.loop-c-init
 loop-c-init c = record {

@@ -1,9 +1,9 @@
+use Rattle.cd_conf.proofs.quotes.read_quoted.Given as goal
+use Rattle.cd_conf.specs.Place.{characters_left, position}
+use Rattle.cd_conf.specs.Quotes.{quoted_at, quoted_from, with_text}
 use Rattle.std.proofs.Common.{◌≡◌, ◌≤◌}
 use Rattle.std.specs.Str.{chars}
 use Rattle.std.specs.String.{string_bytes}
-use Rattle.cd_conf.specs.Place.{characters_left, position}
-use Rattle.cd_conf.specs.Quotes.{quoted_at, quoted_from, with_text}
-use Rattle.cd_conf.proofs.quotes.read_quoted.Given as goal
 
 abbrev pub invariant-loop-c : goal.invariant-loop-c
 invariant-loop-c l = record {

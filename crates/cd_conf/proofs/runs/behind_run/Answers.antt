@@ -1,7 +1,7 @@
-use Rattle.std.proofs.Common.{arith}
-use Rattle.std.specs.Str.{chars}
 use Rattle.cd_conf.proofs.CharacterRuns.{after_goes_on}
 use Rattle.cd_conf.proofs.runs.behind_run.Goals as goal
+use Rattle.std.proofs.Common.{arith}
+use Rattle.std.specs.Str.{chars}
 
 pub loop-more-preserved : goal.loop-more-preserved
 loop-more-preserved c = record {

@@ -1,9 +1,9 @@
+use Rattle.cd_conf.proofs.runs.behind_run.Given as goal
+use Rattle.cd_conf.specs.Characters.{after_run}
+use Rattle.std.proofs.Common.{length, ◌≡◌, ◌≤◌}
+use Rattle.std.specs.Str.{chars}
 use denote.Shadow.{shadow}
 use denote.Text.{Utf8}
-use Rattle.std.proofs.Common.{◌≡◌, ◌≤◌, length}
-use Rattle.std.specs.Str.{chars}
-use Rattle.cd_conf.specs.Characters.{after_run}
-use Rattle.cd_conf.proofs.runs.behind_run.Given as goal
 
 abbrev pub invariant-loop-more : goal.invariant-loop-more
 invariant-loop-more l = record {

@@ -1,7 +1,7 @@
-use Rattle.std.proofs.Common.{sym, ◌∙◌}
-use Rattle.std.specs.Str.{chars}
 use Rattle.cd_conf.proofs.CharacterRuns.{after_all, after_other}
 use Rattle.cd_conf.proofs.runs.split_member.Goals as goal
+use Rattle.std.proofs.Common.{sym, ◌∙◌}
+use Rattle.std.specs.Str.{chars}
 
 pub returns-in-None-clause-none : goal.returns-in-None-clause-none
 returns-in-None-clause-none c = after_all c.args.kind (chars c.args.text.now) c.in-None.ensures.first

@@ -1,9 +1,9 @@
-use Rattle.std.proofs.Common.{subst, ◌∙◌}
-use Rattle.std.specs.Str.{IsCharBoundary, chars}
-use Rattle.std.proofs.lemmas.Str.{IsCharBoundary-at_seam}
-use Rattle.cd_conf.specs.Characters.{front_run}
 use Rattle.cd_conf.proofs.CharacterRuns.{front_length, front_taken, whole}
 use Rattle.cd_conf.proofs.runs.split_run.Goals as goal
+use Rattle.cd_conf.specs.Characters.{front_run}
+use Rattle.std.proofs.Common.{subst, ◌∙◌}
+use Rattle.std.proofs.lemmas.Str.{IsCharBoundary-at_seam}
+use Rattle.std.specs.Str.{IsCharBoundary, chars}
 
 pub split_at-requires : goal.split_at-requires
 split_at-requires c =

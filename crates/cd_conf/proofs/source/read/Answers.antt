@@ -1,10 +1,10 @@
-use Rattle.std.proofs.Common.{Err, ap}
-use Rattle.cd_conf.specs.Statements.{statements_of_text}
-use Rattle.cd_conf.specs.Tree.{statements_of_items}
-use Rattle.cd_io.specs.declared.source.ReadAllFault.{ReadAllFault}
 use Rattle.cd_conf.proofs.LineRuns.{not_whole}
 use Rattle.cd_conf.proofs.TextFaults.{no_source_line, of_given, of_text}
 use Rattle.cd_conf.proofs.source.read.Goals as goal
+use Rattle.cd_conf.specs.Statements.{statements_of_text}
+use Rattle.cd_conf.specs.Tree.{statements_of_items}
+use Rattle.cd_io.specs.declared.source.ReadAllFault.{ReadAllFault}
+use Rattle.std.proofs.Common.{Err, ap}
 
 pub returns-in-Ok-clause-faults : goal.returns-in-Ok-clause-faults
 returns-in-Ok-clause-faults g c =

@@ -1,6 +1,6 @@
-use Rattle.std.proofs.Common.{◌≡◌, ◌∙◌, List, Result, length, ap, subst, sym}
-use Rattle.std.proofs.lemmas.Result.{err_from_is_err_and}
-use Rattle.cd_reading.specs.Gives.{Gives}
+use Rattle.cd_conf.proofs.LineRuns.{all_lines, failed, finished}
+use Rattle.cd_conf.proofs.Repeating.{faults, goes_on, stops}
+use Rattle.cd_conf.proofs.text.lines.Goals as goal
 use Rattle.cd_conf.specs.Faults.{conf_fault}
 use Rattle.cd_conf.specs.Pile.{opens_in, statements_in}
 use Rattle.cd_conf.specs.Place.{position}
@@ -8,9 +8,9 @@ use Rattle.cd_conf.specs.Statements.{Stand, Statement, closed, line_at, stand, s
 use Rattle.cd_conf.specs.Tree.{statements_of_items}
 use Rattle.cd_conf.specs.declared.fault.ConfFault.{ConfFault}
 use Rattle.cd_conf.specs.declared.pile.Pile.{Pile}
-use Rattle.cd_conf.proofs.LineRuns.{all_lines, failed, finished}
-use Rattle.cd_conf.proofs.Repeating.{faults, goes_on, stops}
-use Rattle.cd_conf.proofs.text.lines.Goals as goal
+use Rattle.cd_reading.specs.Gives.{Gives}
+use Rattle.std.proofs.Common.{List, Result, ap, length, subst, sym, ◌∙◌, ◌≡◌}
+use Rattle.std.proofs.lemmas.Result.{err_from_is_err_and}
 
 pub returns-in_err-next : goal.returns-in_err-next
 returns-in_err-next c =

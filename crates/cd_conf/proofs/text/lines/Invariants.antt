@@ -1,10 +1,10 @@
-use Rattle.std.proofs.Common.{length}
-use Rattle.cd_conf.specs.Pile.{opens_in, statements_in}
-use Rattle.cd_conf.specs.Place.{characters_left, position}
-use Rattle.cd_conf.specs.Statements.{Stand, line_at, stand}
 use Rattle.cd_conf.proofs.LineRuns.{all_lines}
 use Rattle.cd_conf.proofs.Repeating.{Going}
 use Rattle.cd_conf.proofs.text.lines.Given as goal
+use Rattle.cd_conf.specs.Pile.{opens_in, statements_in}
+use Rattle.cd_conf.specs.Place.{characters_left, position}
+use Rattle.cd_conf.specs.Statements.{Stand, line_at, stand}
+use Rattle.std.proofs.Common.{length}
 
 abbrev pub invariant-loop-pile : goal.invariant-loop-pile
 invariant-loop-pile l =

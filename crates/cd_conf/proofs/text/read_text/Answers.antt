@@ -1,9 +1,5 @@
-use Rattle.std.proofs.Common.{◌≡◌, ℕ, ◌+◌, ◌∙◌, List, Result, Err, ap, subst, sym, take}
-use Rattle.std.proofs.lemmas.Bool.{false_from_ne_true}
-use Rattle.std.proofs.lemmas.Str.{IsUtf8-from_is_utf8}
-use Rattle.std.specs.List.{count_by}
-use Rattle.std.specs.Str.{chars, is_utf8}
-use Rattle.cd_reading.specs.Gives.{Gives}
+use Rattle.cd_conf.proofs.LineRuns.{good_text, not_text}
+use Rattle.cd_conf.proofs.text.read_text.Goals as goal
 use Rattle.cd_conf.specs.Blanks.{behind_blanks, is_newline}
 use Rattle.cd_conf.specs.Faults.{conf_fault, fault_at}
 use Rattle.cd_conf.specs.Place.{position}
@@ -12,8 +8,12 @@ use Rattle.cd_conf.specs.Statements.{Statement, statements_at, statements_of_tex
 use Rattle.cd_conf.specs.Tree.{statements_of_items}
 use Rattle.cd_conf.specs.declared.fault.ConfFault.{ConfFault}
 use Rattle.cd_conf.specs.declared.fault.ConfKind.TheVariants as kinds
-use Rattle.cd_conf.proofs.LineRuns.{good_text, not_text}
-use Rattle.cd_conf.proofs.text.read_text.Goals as goal
+use Rattle.cd_reading.specs.Gives.{Gives}
+use Rattle.std.proofs.Common.{Err, List, Result, ap, subst, sym, take, ℕ, ◌+◌, ◌∙◌, ◌≡◌}
+use Rattle.std.proofs.lemmas.Bool.{false_from_ne_true}
+use Rattle.std.proofs.lemmas.Str.{IsUtf8-from_is_utf8}
+use Rattle.std.specs.List.{count_by}
+use Rattle.std.specs.Str.{chars, is_utf8}
 
 pub returns-in-Ok : goal.returns-in-Ok
 returns-in-Ok c =

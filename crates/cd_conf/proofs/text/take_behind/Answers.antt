@@ -1,9 +1,9 @@
-use Rattle.std.proofs.lemmas.Result.{err_from_is_err_and}
+use Rattle.cd_conf.proofs.LineRuns.{end_fault, nesting_fault, said, values_fault}
+use Rattle.cd_conf.proofs.text.take_behind.Goals as goal
 use Rattle.cd_conf.specs.Faults.{conf_fault}
 use Rattle.cd_conf.specs.Pile.{opens_in}
 use Rattle.cd_conf.specs.Place.{position}
-use Rattle.cd_conf.proofs.LineRuns.{end_fault, nesting_fault, said, values_fault}
-use Rattle.cd_conf.proofs.text.take_behind.Goals as goal
+use Rattle.std.proofs.lemmas.Result.{err_from_is_err_and}
 
 pub returns-in_err-allows-clause-fault : goal.returns-in_err-allows-clause-fault
 returns-in_err-allows-clause-fault c =

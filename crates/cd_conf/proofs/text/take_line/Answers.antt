@@ -1,9 +1,9 @@
-use Rattle.std.proofs.Common.{arith, ap, length}
-use Rattle.cd_conf.specs.Place.{position}
-use Rattle.cd_conf.specs.Position.{Position}
-use Rattle.std.specs.Str.{chars}
 use Rattle.cd_conf.proofs.BlankRuns.{next_shrinks}
 use Rattle.cd_conf.proofs.text.take_line.Goals as goal
+use Rattle.cd_conf.specs.Place.{position}
+use Rattle.cd_conf.specs.Position.{Position}
+use Rattle.std.proofs.Common.{ap, arith, length}
+use Rattle.std.specs.Str.{chars}
 
 pub returns-then-is_line_end-clause-later : goal.returns-then-is_line_end-clause-later
 returns-then-is_line_end-clause-later c =

@@ -1,9 +1,9 @@
-use Rattle.std.proofs.Common.{◌<◌, ◌≤◌, arith, sym}
-use Rattle.std.specs.Str.{chars}
-use Rattle.cd_conf.specs.Place.{characters_left}
-use Rattle.cd_conf.specs.declared.place.Place.{Place}
 use Rattle.cd_conf.proofs.LineRuns.{head_shorter, if_ok}
 use Rattle.cd_conf.proofs.text.take_statement.Goals as goal
+use Rattle.cd_conf.specs.Place.{characters_left}
+use Rattle.cd_conf.specs.declared.place.Place.{Place}
+use Rattle.std.proofs.Common.{arith, sym, ◌<◌, ◌≤◌}
+use Rattle.std.specs.Str.{chars}
 
 pub returns-in-Some-clause-later : goal.returns-in-Some-clause-later
 returns-in-Some-clause-later c =

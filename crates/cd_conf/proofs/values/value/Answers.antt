@@ -1,8 +1,8 @@
-use Rattle.std.proofs.Common.{arith, sym, ◌∙◌}
-use Rattle.std.specs.Str.{chars}
-use Rattle.cd_conf.specs.declared.runs.Kind.TheVariants.{Word}
 use Rattle.cd_conf.proofs.CharacterRuns.{run_shorter}
 use Rattle.cd_conf.proofs.values.value.Goals as goal
+use Rattle.cd_conf.specs.declared.runs.Kind.TheVariants.{Word}
+use Rattle.std.proofs.Common.{arith, sym, ◌∙◌}
+use Rattle.std.specs.Str.{chars}
 
 pub returns-in_ok-plain_word-in-Some-clause-later : goal.returns-in_ok-plain_word-in-Some-clause-later
 returns-in_ok-plain_word-in-Some-clause-later c =

@@ -1,6 +1,5 @@
-use Rattle.std.proofs.Common.{◌∙◌, [], ◌∷◌, Ok, Option, length, ap, arith}
-use Rattle.std.proofs.lemmas.Result.{err_from_is_err_and}
-use Rattle.std.specs.Option.{option_map}
+use Rattle.cd_conf.proofs.Repeating.{faults, goes_on, stops}
+use Rattle.cd_conf.proofs.values.values.Goals as goal
 use Rattle.cd_conf.specs.Faults.{conf_fault}
 use Rattle.cd_conf.specs.Place.{position}
 use Rattle.cd_conf.specs.Position.{Position}
@@ -8,8 +7,9 @@ use Rattle.cd_conf.specs.Seen.{seen_one}
 use Rattle.cd_conf.specs.Values.{value_at, values_at}
 use Rattle.cd_conf.specs.declared.item.Arg.{Arg}
 use Rattle.cd_conf.specs.declared.place.Place.{Place}
-use Rattle.cd_conf.proofs.Repeating.{faults, goes_on, stops}
-use Rattle.cd_conf.proofs.values.values.Goals as goal
+use Rattle.std.proofs.Common.{Ok, Option, [], ap, arith, length, ◌∙◌, ◌∷◌}
+use Rattle.std.proofs.lemmas.Result.{err_from_is_err_and}
+use Rattle.std.specs.Option.{option_map}
 
 pub returns-in_err-arg-clause-value : goal.returns-in_err-arg-clause-value
 returns-in_err-arg-clause-value c =

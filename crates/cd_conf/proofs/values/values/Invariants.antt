@@ -1,9 +1,9 @@
-use Rattle.std.proofs.Common.{◌≤◌, length}
+use Rattle.cd_conf.proofs.Repeating.{Going}
+use Rattle.cd_conf.proofs.values.values.Given as goal
 use Rattle.cd_conf.specs.Place.{characters_left, position}
 use Rattle.cd_conf.specs.Position.{Position}
 use Rattle.cd_conf.specs.Values.{value_at, values_at}
-use Rattle.cd_conf.proofs.Repeating.{Going}
-use Rattle.cd_conf.proofs.values.values.Given as goal
+use Rattle.std.proofs.Common.{length, ◌≤◌}
 
 abbrev pub invariant-loop-args : goal.invariant-loop-args
 invariant-loop-args l = record {

@@ -1,6 +1,6 @@
-use Rattle.std.proofs.Common.{◌≡◌, ◌≤◌, ◌+◌, ◌-◌, length}
-use Rattle.cd_io.specs.Told.{Takes}
 use Rattle.cd_io.proofs.source.read_all.Given as goal
+use Rattle.cd_io.specs.Told.{Takes}
+use Rattle.std.proofs.Common.{length, ◌+◌, ◌-◌, ◌≡◌, ◌≤◌}
 
 -- what was read so far was taken from what was left, and is at most the limit
 abbrev pub invariant-loop-bytes : goal.invariant-loop-bytes

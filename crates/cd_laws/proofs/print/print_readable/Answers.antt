@@ -1,12 +1,12 @@
-use Rattle.std.proofs.Common.{◌≡◌, ◌^◌, ◌<◌, ◌≤◌, ℕ, List, ap, ◌∙◌, arith, rules}
-use Rattle.std.specs.Prelude.{IfOk, nat_abs}
-use Rattle.std.specs.Int.Signed.{nat_abs-le}
-use Rattle.std.proofs.lemmas.Result.{IfOk-weaker}
-use Rattle.cd_value.specs.Print.{millionths_text}
-use Rattle.cd_text.specs.Number.{number_of}
-use Rattle.cd_laws.specs.ReadBack.{read_back}
 use Rattle.cd_laws.proofs.Reading.{number_of-millionths_text}
 use Rattle.cd_laws.proofs.print.print_readable.Goals as goal
+use Rattle.cd_laws.specs.ReadBack.{read_back}
+use Rattle.cd_text.specs.Number.{number_of}
+use Rattle.cd_value.specs.Print.{millionths_text}
+use Rattle.std.proofs.Common.{List, ap, arith, rules, ℕ, ◌<◌, ◌^◌, ◌∙◌, ◌≡◌, ◌≤◌}
+use Rattle.std.proofs.lemmas.Result.{IfOk-weaker}
+use Rattle.std.specs.Int.Signed.{nat_abs-le}
+use Rattle.std.specs.Prelude.{IfOk, nat_abs}
 
 pub returns-clause-reads : goal.returns-clause-reads
 returns-clause-reads c =

@@ -1,9 +1,9 @@
-use Rattle.std.proofs.Common.{List, [], subst}
-use Rattle.std.proofs.lemmas.List.{append-nil}
-use Rattle.cd_net.specs.declared.packet.Part.{Part}
-use Rattle.cd_net.specs.Packet.{AreParts}
 use Rattle.cd_net.proofs.Cutting.{parts_once}
 use Rattle.cd_net.proofs.cut.parts.Goals as goal
+use Rattle.cd_net.specs.Packet.{AreParts}
+use Rattle.cd_net.specs.declared.packet.Part.{Part}
+use Rattle.std.proofs.Common.{List, [], subst}
+use Rattle.std.proofs.lemmas.List.{append-nil}
 
 pub returns-in-Err-clause-cut : goal.returns-in-Err-clause-cut
 returns-in-Err-clause-cut c =

@@ -1,8 +1,8 @@
-use Rattle.std.proofs.Common.{◌≤◌, ◌-◌, ◌++◌, List, length}
-use Rattle.cd_net.specs.declared.packet.Part.{Part}
-use Rattle.cd_net.specs.declared.packet.PacketEnd.{PacketEnd}
-use Rattle.cd_net.specs.Packet.{AreParts}
 use Rattle.cd_net.proofs.cut.parts.Given as goal
+use Rattle.cd_net.specs.Packet.{AreParts}
+use Rattle.cd_net.specs.declared.packet.PacketEnd.{PacketEnd}
+use Rattle.cd_net.specs.declared.packet.Part.{Part}
+use Rattle.std.proofs.Common.{List, length, ◌++◌, ◌-◌, ◌≤◌}
 
 -- the parts so far and those that follow are the packet's
 abbrev pub invariant-loop-part : goal.invariant-loop-part

@@ -1,15 +1,15 @@
-use Rattle.std.proofs.Common.{◌≡◌, ◌≤◌, ◌+◌, List, Option, ℕ, length, arith, ap, ◌∙◌}
-use Rattle.cd_value.specs.declared.data.DataSet.{DataSet}
+use Rattle.cd_net.proofs.Decoding.{decoded_once, reads_all, reads_more, reads_none}
 use Rattle.cd_net.proofs.Fields.{set_is_in_force}
-use Rattle.cd_net.specs.declared.packet.Part.{Part}
-use Rattle.std.specs.Option.{option_copied}
-use Rattle.cd_net.specs.Packet.{payload}
+use Rattle.cd_net.proofs.Fitting.{each_item_fits, each_item_is_sound}
+use Rattle.cd_net.proofs.decode.items.Goals as goal
 use Rattle.cd_net.specs.Carried.{shown, with_field}
 use Rattle.cd_net.specs.Items.{is_sound, item_fits, outcome}
+use Rattle.cd_net.specs.Packet.{payload}
+use Rattle.cd_net.specs.declared.packet.Part.{Part}
+use Rattle.cd_value.specs.declared.data.DataSet.{DataSet}
+use Rattle.std.proofs.Common.{List, Option, ap, arith, length, ℕ, ◌+◌, ◌∙◌, ◌≡◌, ◌≤◌}
 use Rattle.std.specs.List.{list_all}
-use Rattle.cd_net.proofs.Fitting.{each_item_fits, each_item_is_sound}
-use Rattle.cd_net.proofs.Decoding.{decoded_once, reads_none, reads_more, reads_all}
-use Rattle.cd_net.proofs.decode.items.Goals as goal
+use Rattle.std.specs.Option.{option_copied}
 
 pub loop-part-init : goal.loop-part-init
 loop-part-init c = record {

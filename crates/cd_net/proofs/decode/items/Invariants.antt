@@ -1,9 +1,9 @@
-use Rattle.std.specs.Option.{option_copied}
-use Rattle.cd_net.specs.Refusals.{set_in_force}
-use Rattle.std.proofs.Common.{◌≡◌, ◌≤◌, ◌-◌, length}
-use Rattle.cd_net.specs.Carried.{shown}
 use Rattle.cd_net.proofs.Decoding.{Reads}
 use Rattle.cd_net.proofs.decode.items.Given as goal
+use Rattle.cd_net.specs.Carried.{shown}
+use Rattle.cd_net.specs.Refusals.{set_in_force}
+use Rattle.std.proofs.Common.{length, ◌-◌, ◌≡◌, ◌≤◌}
+use Rattle.std.specs.Option.{option_copied}
 
 abbrev pub invariant-loop-part : goal.invariant-loop-part
 invariant-loop-part l = record {

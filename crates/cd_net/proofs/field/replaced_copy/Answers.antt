@@ -1,7 +1,7 @@
-use Rattle.std.proofs.Common.{sym, subst}
-use Rattle.std.specs.Str.{IsUtf8}
-use Rattle.cd_value.proofs.Fronts.{IsUtf8-clean}
 use Rattle.cd_net.proofs.field.replaced_copy.Goals as goal
+use Rattle.cd_value.proofs.Fronts.{IsUtf8-clean}
+use Rattle.std.proofs.Common.{subst, sym}
+use Rattle.std.specs.Str.{IsUtf8}
 
 pub unwrap-requires : goal.unwrap-requires
 unwrap-requires c =

@@ -1,9 +1,9 @@
-use Rattle.std.proofs.Common.{ℕ, List, ap, ◌∙◌, ◌++◌, ◌+◌, drop, length, arith}
-use Rattle.std.proofs.lemmas.List.{length-drop, length-take}
-use Rattle.cd_value.specs.declared.data.Value.{Value}
-use Rattle.cd_net.specs.Payload.{codes_of, value_count}
 use Rattle.cd_net.proofs.Values.{coded_values, payload_values_are}
 use Rattle.cd_net.proofs.list.payload_values.Goals as goal
+use Rattle.cd_net.specs.Payload.{codes_of, value_count}
+use Rattle.cd_value.specs.declared.data.Value.{Value}
+use Rattle.std.proofs.Common.{List, ap, arith, drop, length, ℕ, ◌++◌, ◌+◌, ◌∙◌}
+use Rattle.std.proofs.lemmas.List.{length-drop, length-take}
 
 pub loop-code-init : goal.loop-code-init
 loop-code-init c = record {

@@ -1,7 +1,7 @@
-use Rattle.std.proofs.Common.{◌≡◌, ◌+◌, ◌*◌, ◌≤◌, ◌++◌, drop, length}
-use Rattle.cd_net.specs.Payload.{payload_values}
 use Rattle.cd_net.proofs.Values.{coded_values}
 use Rattle.cd_net.proofs.list.payload_values.Given as goal
+use Rattle.cd_net.specs.Payload.{payload_values}
+use Rattle.std.proofs.Common.{drop, length, ◌*◌, ◌++◌, ◌+◌, ◌≡◌, ◌≤◌}
 
 -- the values so far and those of the codes that are left are those of all
 abbrev pub invariant-loop-code : goal.invariant-loop-code

@@ -1,7 +1,7 @@
-use Rattle.std.proofs.Common.{ℕ, ap, sym, take}
-use Rattle.cd_net.specs.Payload.{is_zero}
 use Rattle.cd_net.proofs.Texts.{at_position, no_position}
 use Rattle.cd_net.proofs.payload.before_zero.Goals as goal
+use Rattle.cd_net.specs.Payload.{is_zero}
+use Rattle.std.proofs.Common.{ap, sym, take, ℕ}
 
 pub returns-in-Some : goal.returns-in-Some
 returns-in-Some c =

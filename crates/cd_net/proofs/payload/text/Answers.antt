@@ -1,6 +1,6 @@
-use Rattle.std.proofs.Common.{sym, List, ℕ, ap, ◌∙◌, Some}
-use Rattle.cd_net.proofs.Texts.{text_is, no_text}
+use Rattle.cd_net.proofs.Texts.{no_text, text_is}
 use Rattle.cd_net.proofs.payload.text.Goals as goal
+use Rattle.std.proofs.Common.{List, Some, ap, sym, ℕ, ◌∙◌}
 
 pub returns-in_default : goal.returns-in_default
 returns-in_default c = sym (no_text c.args.payload.now c.before_zero-text.result.now c.before_zero-text.ensures c.in_default.ensures.cases.0)

@@ -1,8 +1,8 @@
 -- A step of the loop offers the first of the lists with the next word.
-use Rattle.std.proofs.Common.{◌≡◌, ◌+◌, [], ◌∷◌, ◌++◌, length, drop, get_or, add-one, ap, sym, ◌∙◌, append_assoc, drop-cons, arith, pred}
 use Rattle.cd_queue.proofs.Offers.{fates_step, offers_step}
 use Rattle.cd_queue.proofs.tests.offer_all.Goals as goal
 use Rattle.cd_queue.proofs.tests.offer_all.Goals.{in-Some+in_ok-offer+in_ok-push, in_default}
+use Rattle.std.proofs.Common.{[], add-one, ap, append_assoc, arith, drop, drop-cons, get_or, length, pred, sym, ◌++◌, ◌+◌, ◌∙◌, ◌∷◌, ◌≡◌}
 
 pub loop-word-preserved : goal.loop-word-preserved
 loop-word-preserved c =

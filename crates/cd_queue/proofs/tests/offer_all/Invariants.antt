@@ -1,7 +1,7 @@
 -- what was told and what is told of the rest is what is told of all; so with what waits
-use Rattle.std.proofs.Common.{◌≡◌, ◌++◌, length, drop}
-use Rattle.cd_queue.specs.Drops.{after_offers, fates_of}
 use Rattle.cd_queue.proofs.tests.offer_all.Given as goal
+use Rattle.cd_queue.specs.Drops.{after_offers, fates_of}
+use Rattle.std.proofs.Common.{drop, length, ◌++◌, ◌≡◌}
 
 abbrev pub invariant-loop-word : goal.invariant-loop-word
 invariant-loop-word l =

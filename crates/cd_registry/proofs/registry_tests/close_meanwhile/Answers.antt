@@ -1,12 +1,12 @@
-use Rattle.std.proofs.Common.{◌≡◌, ℕ, List, Bool, true, false, Option, Some, None, Result, Ok, Err, IfOk, OnErr, IsSomeAnd, slice_get, refl, sym, subst}
-use Rattle.std.specs.Result.{result_err}
-use Rattle.cd_registry.specs.declared.faults.NotRegistered.{NotRegistered}
-use Rattle.cd_registry.specs.declared.faults.RetireFault.{RetireFault}
-use Rattle.cd_registry.specs.Faults.{retire_fault}
-use Rattle.cd_registry.specs.Registry.{rows}
-use Rattle.cd_registry.specs.Rows.{Row, At, IsPlugOut, after_close, with_row}
 use Rattle.cd_registry.proofs.Ats.{at_kept}
 use Rattle.cd_registry.proofs.registry_tests.close_meanwhile.Goals as goal
+use Rattle.cd_registry.specs.Faults.{retire_fault}
+use Rattle.cd_registry.specs.Registry.{rows}
+use Rattle.cd_registry.specs.Rows.{At, IsPlugOut, Row, after_close, with_row}
+use Rattle.cd_registry.specs.declared.faults.NotRegistered.{NotRegistered}
+use Rattle.cd_registry.specs.declared.faults.RetireFault.{RetireFault}
+use Rattle.std.proofs.Common.{Bool, Err, IfOk, IsSomeAnd, List, None, Ok, OnErr, Option, Result, Some, false, refl, slice_get, subst, sym, true, ℕ, ◌≡◌}
+use Rattle.std.specs.Result.{result_err}
 
 kept_by_close : (r : Result ℕ NotRegistered) (old new : List Row) (i : ℕ) → IfOk r (λ n. new ≡ with_row n after_close old) → OnErr r (new ≡ old) → At old i IsPlugOut → At new i IsPlugOut
 kept_by_close (Ok n) old new i closed same at =

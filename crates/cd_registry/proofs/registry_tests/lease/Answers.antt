@@ -1,8 +1,8 @@
-use Rattle.std.proofs.Common.{◌≡◌, List, sym, ◌∙◌, subst}
-use Rattle.cd_registry.specs.Registry.{rows}
-use Rattle.cd_registry.specs.Rows.{Row, At, IsPlugOut, is_ready}
 use Rattle.cd_registry.proofs.Ats.{at_first, taken_out}
 use Rattle.cd_registry.proofs.registry_tests.lease.Goals as goal
+use Rattle.cd_registry.specs.Registry.{rows}
+use Rattle.cd_registry.specs.Rows.{At, IsPlugOut, Row, is_ready}
+use Rattle.std.proofs.Common.{List, subst, sym, ◌∙◌, ◌≡◌}
 
 pub take-lease-requires-after_bounds : goal.take-lease-requires-after_bounds
 take-lease-requires-after_bounds g c κs within =

@@ -1,8 +1,8 @@
-use Rattle.std.proofs.Common.{◌≡◌, List, sym, ◌∙◌, subst}
-use Rattle.cd_registry.specs.Registry.{rows}
-use Rattle.cd_registry.specs.Rows.{Row, At, IsLive}
 use Rattle.cd_registry.proofs.Ats.{found_live}
 use Rattle.cd_registry.proofs.registry_tests.post.Goals as goal
+use Rattle.cd_registry.specs.Registry.{rows}
+use Rattle.cd_registry.specs.Rows.{At, IsLive, Row}
+use Rattle.std.proofs.Common.{List, subst, sym, ◌∙◌, ◌≡◌}
 
 pub reserve-requires-after_bounds : goal.reserve-requires-after_bounds
 reserve-requires-after_bounds g c κs within = found_live 1 c.args.name.now _ c.in_ok-reg.reg (sym c.find.ensures.number ∙ c.in_ok-reg.was)

@@ -1,23 +1,27 @@
-use Rattle.cd_serve.proofs.Promises.{few_shown, first_is, nothing_served, pairs_same, run_back, run_completed_as, run_promised_as}
+use Rattle.cd_serve.proofs.Outcomes.{done_refused, done_served, fault_accepted, fault_refused}
 use Rattle.cd_serve.proofs.program.run_of.Goals as goal
+use Rattle.std.proofs.Common.{map, string_bytes}
 
-pub returns-in-Ok-clause-promises : goal.returns-in-Ok-clause-promises
-returns-in-Ok-clause-promises g c =
-    run_promised_as _ _ _ (few_shown _ c.args.shelf.items c.requires.few) _
-    (first_is _ _ _ _ c.in-Ok.ensures.ok (pairs_same _ _ _ _ _ c.clock-clock.ensures.begins c.dice-dice.ensures.begins c.clock-clock.ensures.dice_pair))
-    _ _ _ _ _ c.serve_all-served.ensures _ c.end_of.ensures
+pub returns-in-Err-clause-faults : goal.returns-in-Err-clause-faults
+returns-in-Err-clause-faults g c =
+    fault_refused (map string_bytes c.args.words.now) (g.W.World.world_tells c.args.world.now).files
+    c.in-Err.end _ _ _ c.in-Err.ensures.refused c.in-Err.ensures.failed c.uncalled.ensures.end
 
-pub returns-in-Ok-clause-complete : goal.returns-in-Ok-clause-complete
-returns-in-Ok-clause-complete g c = λ words fine within.
-    run_completed_as _ _ _ (few_shown _ c.args.shelf.items c.requires.few) _
-    (first_is _ _ _ _ c.in-Ok.ensures.ok (pairs_same _ _ _ _ _ c.clock-clock.ensures.begins c.dice-dice.ensures.begins c.clock-clock.ensures.dice_pair))
-    _ _ _ _ _ c.serve_all-served.ensures _ c.end_of.ensures fine within
+pub returns-in-Err-clause-complete : goal.returns-in-Err-clause-complete
+returns-in-Err-clause-complete g c = λ of is accepted none fine taken.
+    done_refused (map string_bytes c.args.words.now) (g.W.World.world_tells c.args.world.now).files
+    c.in-Err.end _ _ _ c.in-Err.ensures.refused c.in-Err.ensures.failed c.uncalled.ensures.end of is accepted none
 
-pub returns-in-Ok-clause-back : goal.returns-in-Ok-clause-back
-returns-in-Ok-clause-back g c =
-    run_back _ _ _ (few_shown _ c.args.shelf.items c.requires.few) _
-    (first_is _ _ _ _ c.in-Ok.ensures.ok (pairs_same _ _ _ _ _ c.clock-clock.ensures.begins c.dice-dice.ensures.begins c.clock-clock.ensures.dice_pair))
-    _ _ _ _ (λ line old new keeps. keeps) _ c.serve_all-served.ensures
+pub returns-in-Test-clause-faults : goal.returns-in-Test-clause-faults
+returns-in-Test-clause-faults g c = λ of fault is refused none.
+    fault_accepted (map string_bytes c.args.words.now) (g.W.World.world_tells c.args.world.now).files
+    c.in-Ok.started.0 c.in-Ok.started.1 _ c.in-Ok.ensures.command c.in-Ok.ensures.comes of fault is refused
 
-pub returns-in-Err-clause-promises : goal.returns-in-Err-clause-promises
-returns-in-Err-clause-promises g c = nothing_served _ _ _
+pub returns-clause-faults : goal.returns-clause-faults
+returns-clause-faults g c = λ of fault is refused none.
+    fault_accepted (map string_bytes c.args.words.now) (g.W.World.world_tells c.args.world.now).files
+    c.in-Ok.started.0 c.in-Ok.started.1 _ c.in-Ok.ensures.command c.in-Ok.ensures.comes of fault is refused
+
+pub returns-clause-complete : goal.returns-clause-complete
+returns-clause-complete g c = λ of is accepted none fine taken.
+    done_served _ c.in-Ok.started.0 _ _ _ _ _ _ _ _ _ c.in-Ok.ensures.command c.in-Lines.is c.serve_lines.ensures.serves of is fine taken

@@ -1,8 +1,8 @@
-use Rattle.std.proofs.Common.{◌∙◌, ap, sym, ℕ, Option}
-use Rattle.std.specs.Prelude.{ok_or}
-use Rattle.cd_sock.specs.declared.fault.LineFault.TheVariants.{BadTime}
 use Rattle.cd_sock.proofs.Intervals.{interval_at_last}
 use Rattle.cd_sock.proofs.arguments.read_interval.Goals as goal
+use Rattle.cd_sock.specs.declared.fault.LineFault.TheVariants.{BadTime}
+use Rattle.std.proofs.Common.{Option, ap, sym, ℕ, ◌∙◌}
+use Rattle.std.specs.Prelude.{ok_or}
 
 pub returns : goal.returns
 returns c =

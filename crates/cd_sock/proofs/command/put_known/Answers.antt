@@ -1,13 +1,13 @@
-use Rattle.std.proofs.Common.{◌∙◌, ap, sym, List, Result, Ok}
-use Rattle.std.proofs.lemmas.Result.{err_from_is_err_and}
-use Rattle.cd_value.specs.declared.data.ValueList.{ValueList}
-use Rattle.cd_sock.specs.declared.command.Command.TheVariants.{PutVal}
-use Rattle.cd_sock.specs.declared.fault.LineFault.{LineFault}
-use Rattle.cd_sock.specs.Faults.{line_fault}
-use Rattle.cd_sock.specs.Meaning.{at_moment, lists_or_fault, put_known}
 use Rattle.cd_reading.specs.First.{◌>>=◌}
 use Rattle.cd_sock.proofs.Meanings.{put_lists, refuses_on}
 use Rattle.cd_sock.proofs.command.put_known.Goals as goal
+use Rattle.cd_sock.specs.Faults.{line_fault}
+use Rattle.cd_sock.specs.Meaning.{at_moment, lists_or_fault, put_known}
+use Rattle.cd_sock.specs.declared.command.Command.TheVariants.{PutVal}
+use Rattle.cd_sock.specs.declared.fault.LineFault.{LineFault}
+use Rattle.cd_value.specs.declared.data.ValueList.{ValueList}
+use Rattle.std.proofs.Common.{List, Ok, Result, ap, sym, ◌∙◌}
+use Rattle.std.proofs.lemmas.Result.{err_from_is_err_and}
 
 pub returns-in_err-lists : goal.returns-in_err-lists
 returns-in_err-lists c =

@@ -1,13 +1,13 @@
-use Rattle.std.proofs.Common.{◌≡◌, ◌∙◌, ap, sym, List, ℕ, Result, subst}
 use Rattle.cd_reading.specs.Gives.{Gives}
+use Rattle.cd_sock.proofs.Meanings.{known, unknown}
+use Rattle.cd_sock.proofs.command.put_parts.Goals as goal
+use Rattle.cd_sock.specs.Faults.{line_fault}
+use Rattle.cd_sock.specs.Meaning.{Request, at_moment, put_known, put_parts}
+use Rattle.cd_sock.specs.declared.fault.LineFault.{LineFault}
 use Rattle.cd_types.specs.Types.{set_named}
 use Rattle.cd_value.specs.Identifier.{Fields}
 use Rattle.cd_value.specs.declared.data.DataSource.{DataSource}
-use Rattle.cd_sock.specs.declared.fault.LineFault.{LineFault}
-use Rattle.cd_sock.specs.Faults.{line_fault}
-use Rattle.cd_sock.specs.Meaning.{Request, at_moment, put_known, put_parts}
-use Rattle.cd_sock.proofs.Meanings.{known, unknown}
-use Rattle.cd_sock.proofs.command.put_parts.Goals as goal
+use Rattle.std.proofs.Common.{List, Result, ap, subst, sym, ℕ, ◌∙◌, ◌≡◌}
 
 pub returns-in_default : goal.returns-in_default
 returns-in_default c =

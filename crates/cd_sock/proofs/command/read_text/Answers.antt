@@ -1,16 +1,16 @@
-use Rattle.std.proofs.Common.{◌≡◌, ◌∙◌, ap, sym, List, Result, subst}
-use Rattle.std.proofs.lemmas.Result.{err_from_is_err_and}
 use Rattle.cd_reading.specs.First.{◌>>=◌}
 use Rattle.cd_reading.specs.Gives.{Gives}
-use Rattle.cd_text.specs.declared.word.Word.{Word}
-use Rattle.cd_text.specs.declared.word.WordFault.{WordFault}
-use Rattle.cd_text.specs.Quoting.{words_of}
-use Rattle.cd_sock.specs.declared.command.Command.{Command}
-use Rattle.cd_sock.specs.declared.fault.LineFault.{LineFault}
-use Rattle.cd_sock.specs.Faults.{line_fault, of_words, with_fault}
-use Rattle.cd_sock.specs.Meaning.{at_moment, request_of_text, request_of_words}
 use Rattle.cd_sock.proofs.Meanings.{not_utf8, of_its_words, refuses_words}
 use Rattle.cd_sock.proofs.command.read_text.Goals as goal
+use Rattle.cd_sock.specs.Faults.{line_fault, of_words, with_fault}
+use Rattle.cd_sock.specs.Meaning.{at_moment, request_of_text, request_of_words}
+use Rattle.cd_sock.specs.declared.command.Command.{Command}
+use Rattle.cd_sock.specs.declared.fault.LineFault.{LineFault}
+use Rattle.cd_text.specs.Quoting.{words_of}
+use Rattle.cd_text.specs.declared.word.Word.{Word}
+use Rattle.cd_text.specs.declared.word.WordFault.{WordFault}
+use Rattle.std.proofs.Common.{List, Result, ap, subst, sym, ◌∙◌, ◌≡◌}
+use Rattle.std.proofs.lemmas.Result.{err_from_is_err_and}
 
 pub returns-in_default : goal.returns-in_default
 returns-in_default c = ap (at_moment c.args.now c.args.interval) (not_utf8 c.args.types.now c.args.text.now (sym c.are_blank.ensures ∙ c.if-are_blank.false) c.in_default.ensures.cases.0)

@@ -1,10 +1,10 @@
-use Rattle.std.proofs.Common.{◌∙◌, ap, sym, List, Some, None, cond}
-use Rattle.cd_value.specs.declared.data.ValueList.{ValueList}
-use Rattle.cd_value.specs.Identifier.{Fields}
-use Rattle.cd_sock.specs.Meaning.{list_of}
-use Rattle.cd_sock.specs.Values.{is_whole}
 use Rattle.cd_sock.proofs.AllOrNone.{ends, fails_at, goes_on}
 use Rattle.cd_sock.proofs.lists.earlier_lists.Goals as goal
+use Rattle.cd_sock.specs.Meaning.{list_of}
+use Rattle.cd_sock.specs.Values.{is_whole}
+use Rattle.cd_value.specs.Identifier.{Fields}
+use Rattle.cd_value.specs.declared.data.ValueList.{ValueList}
+use Rattle.std.proofs.Common.{List, None, Some, ap, cond, sym, ◌∙◌}
 
 pub loop-word-init : goal.loop-word-init
 loop-word-init c = ap (λ (lists : List ValueList). Some lists) c.in_ok-lists.ensures.items

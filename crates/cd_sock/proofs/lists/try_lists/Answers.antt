@@ -1,10 +1,10 @@
-use Rattle.std.proofs.Common.{◌∙◌, ap, sym, List, Option, Some, Vec, Global}
-use Rattle.std.specs.Prelude.{option_map}
-use Rattle.cd_value.specs.declared.data.ValueList.{ValueList}
-use Rattle.cd_sock.specs.Meaning.{list_of}
-use Rattle.cd_sock.specs.Values.{is_whole}
 use Rattle.cd_sock.proofs.AllOrNone.{fails_at_last, fails_before_last, with_last}
 use Rattle.cd_sock.proofs.lists.try_lists.Goals as goal
+use Rattle.cd_sock.specs.Meaning.{list_of}
+use Rattle.cd_sock.specs.Values.{is_whole}
+use Rattle.cd_value.specs.declared.data.ValueList.{ValueList}
+use Rattle.std.proofs.Common.{Global, List, Option, Some, Vec, ap, sym, ◌∙◌}
+use Rattle.std.specs.Prelude.{option_map}
 
 abbrev items : Option (Vec ValueList Global) → Option (List ValueList)
 items lists = option_map (λ (v : Vec ValueList Global). v.items) lists

@@ -1,10 +1,10 @@
-use Rattle.std.proofs.Common.{◌≡◌, ◌∙◌, ◌++◌, string_bytes, String, Global}
-use Rattle.std.specs.Prelude.{codes}
-use Rattle.std.specs.Fmt.{decimal}
-use Rattle.std.proofs.lemmas.Result.{IfOk-weaker}
-use Rattle.cd_sock.specs.Replies.{values_found}
 use Rattle.cd_sock.proofs.Printed.{one_value, other_values}
 use Rattle.cd_sock.proofs.reply.print_count.Goals as goal
+use Rattle.cd_sock.specs.Replies.{values_found}
+use Rattle.std.proofs.Common.{Global, String, string_bytes, ◌++◌, ◌∙◌, ◌≡◌}
+use Rattle.std.proofs.lemmas.Result.{IfOk-weaker}
+use Rattle.std.specs.Fmt.{decimal}
+use Rattle.std.specs.Prelude.{codes}
 
 pub returns-then-count-eq1-clause-text : goal.returns-then-count-eq1-clause-text
 returns-then-count-eq1-clause-text c =

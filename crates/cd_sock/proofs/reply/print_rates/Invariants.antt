@@ -1,6 +1,6 @@
-use Rattle.std.proofs.Common.{◌≡◌, ◌++◌, drop, length, string_bytes}
-use Rattle.cd_sock.specs.Replies.{rate_lines, values_found}
 use Rattle.cd_sock.proofs.reply.print_rates.Given as goal
+use Rattle.cd_sock.specs.Replies.{rate_lines, values_found}
+use Rattle.std.proofs.Common.{drop, length, string_bytes, ◌++◌, ◌≡◌}
 
 -- the text so far, and the lines that are still to come
 abbrev pub invariant-loop-i : goal.invariant-loop-i

@@ -1,12 +1,12 @@
-use Rattle.std.proofs.Common.{◌≡◌, ◌∙◌, ◌++◌, ap, refl, sym, subst, length, List, ℕ}
-use Rattle.std.specs.Prelude.{codes}
-use Rattle.std.specs.List.{flat_map, list_all}
-use Rattle.std.proofs.lemmas.Result.{IfOk-weaker}
-use Rattle.cd_sock.specs.declared.reply.Reply.{Reply}
-use Rattle.cd_sock.specs.Framing.{HasPlainNames, IsFramed, is_one_line}
-use Rattle.cd_sock.specs.Replies.{flushed_line, with_newline, rate_lines, row_line, values_found}
-use Rattle.cd_sock.proofs.Frames.{fault_framed, rates_framed, refusal_framed, rows_framed, flushed_framed, done_framed}
+use Rattle.cd_sock.proofs.Frames.{done_framed, fault_framed, flushed_framed, rates_framed, refusal_framed, rows_framed}
 use Rattle.cd_sock.proofs.reply.print_reply.Goals as goal
+use Rattle.cd_sock.specs.Framing.{HasPlainNames, IsFramed, is_one_line}
+use Rattle.cd_sock.specs.Replies.{flushed_line, rate_lines, row_line, values_found, with_newline}
+use Rattle.cd_sock.specs.declared.reply.Reply.{Reply}
+use Rattle.std.proofs.Common.{List, ap, length, refl, subst, sym, ℕ, ◌++◌, ◌∙◌, ◌≡◌}
+use Rattle.std.proofs.lemmas.Result.{IfOk-weaker}
+use Rattle.std.specs.List.{flat_map, list_all}
+use Rattle.std.specs.Prelude.{codes}
 
 -- a text that is framed
 abbrev at : {text other : List ℕ} → text ≡ other → IsFramed other → IsFramed text

@@ -1,8 +1,8 @@
-use Rattle.std.proofs.Common.{◌∙◌, ap, sym, option_copied, Option, Some, List, ℕ, Bor, ◌+◌, drop}
-use Rattle.cd_value.specs.declared.data.Value.{Value}
-use Rattle.cd_sock.specs.Values.{texts_in}
 use Rattle.cd_sock.proofs.Readings.{at_last, begins, by_pairs, goes_on, lacks_one, onto_front, pairwise, stops}
 use Rattle.cd_sock.proofs.values.read_values.Goals as goal
+use Rattle.cd_sock.specs.Values.{texts_in}
+use Rattle.cd_value.specs.declared.data.Value.{Value}
+use Rattle.std.proofs.Common.{Bor, List, Option, Some, ap, drop, option_copied, sym, ℕ, ◌+◌, ◌∙◌}
 
 abbrev all : Option (Bor (List ℕ)) → List (List ℕ)
 all rest = texts_in (option_copied rest)

@@ -1,8 +1,6 @@
-use Rattle.std.proofs.Common.{◌≡◌}
-use Rattle.std.specs.List.{fold}
-use Rattle.cd_text.specs.Cutting.{fed, state}
-use Rattle.cd_text.proofs.Runs.{nothing}
 use Rattle.cd_text.proofs.cutter.words.Given as goal
+use Rattle.std.proofs.Common.{take, ◌≡◌}
 
-abbrev pub invariant-loop-c : goal.invariant-loop-c
-invariant-loop-c l = state l.cutter ≡ fold fed nothing l.yielded
+-- the words so far are those of the cut ones
+abbrev pub invariant-loop-word : goal.invariant-loop-word
+invariant-loop-word l = l.words ≡ take l.word-index l.word-items

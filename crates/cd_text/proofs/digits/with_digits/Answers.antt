@@ -1,7 +1,7 @@
-use Rattle.std.proofs.Common.{◌+◌, length, arith}
-use Rattle.std.proofs.lemmas.Str.{digit_value_digit}
-use Rattle.cd_text.proofs.DigitRuns.{one_more, is_digit, low_more, high_more, room_for}
+use Rattle.cd_text.proofs.DigitRuns.{high_more, is_digit, low_more, one_more, room_for}
 use Rattle.cd_text.proofs.digits.with_digits.Goals as goal
+use Rattle.std.proofs.Common.{arith, length, ◌+◌}
+use Rattle.std.proofs.lemmas.Str.{digit_value_digit}
 
 pub overflow_mul-value : goal.overflow_mul-value
 overflow_mul-value c =

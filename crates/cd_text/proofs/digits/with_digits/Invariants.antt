@@ -1,6 +1,6 @@
-use Rattle.std.proofs.Common.{◌≡◌, ◌<◌, ◌≤◌, ◌+◌, ◌*◌, ◌^◌, take}
-use Rattle.std.specs.Str.Parse.{digits_value_after}
 use Rattle.cd_text.proofs.digits.with_digits.Given as goal
+use Rattle.std.proofs.Common.{take, ◌*◌, ◌+◌, ◌<◌, ◌^◌, ◌≡◌, ◌≤◌}
+use Rattle.std.specs.Str.Parse.{digits_value_after}
 
 abbrev pub invariant-loop-digit : goal.invariant-loop-digit
 invariant-loop-digit l = record {

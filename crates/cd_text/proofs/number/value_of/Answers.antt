@@ -1,8 +1,8 @@
-use Rattle.std.proofs.Common.{◌∙◌, sym, ap, ℕ, length, arith}
-use Rattle.std.specs.Str.Parse.{digits_value_after}
 use Rattle.cd_text.proofs.DigitRuns.{digits_value_after-append, room_behind}
 use Rattle.cd_text.proofs.Powers.{ten_le}
 use Rattle.cd_text.proofs.number.value_of.Goals as goal
+use Rattle.std.proofs.Common.{ap, arith, length, sym, ℕ, ◌∙◌}
+use Rattle.std.specs.Str.Parse.{digits_value_after}
 
 pub with_digits-requires-clause-room : goal.with_digits-requires-clause-room
 with_digits-requires-clause-room c = omega (arith, ten_le (length c.args.whole.now) 36 (omega arith))

@@ -1,10 +1,10 @@
-use Rattle.std.proofs.Common.{◌≡◌, ◌∙◌, sym, map-id}
-use Rattle.std.specs.String.{string_bytes}
-use Rattle.std.proofs.lemmas.Iterator.{YieldsList-from_chars}
-use Rattle.std.proofs.lemmas.Iterator.Consumers.{YieldsList-end}
-use Rattle.cd_text.specs.Quoting.{quoted_of}
-use Rattle.cd_text.proofs.Quotes.{one_more, closed, quoted_is_one_word}
+use Rattle.cd_text.proofs.Quotes.{closed, one_more, quoted_is_one_word}
 use Rattle.cd_text.proofs.quote.quoted.Goals as goal
+use Rattle.cd_text.specs.Quoting.{quoted_of}
+use Rattle.std.proofs.Common.{map-id, sym, ◌∙◌, ◌≡◌}
+use Rattle.std.proofs.lemmas.Iterator.Consumers.{YieldsList-end}
+use Rattle.std.proofs.lemmas.Iterator.{YieldsList-from_chars}
+use Rattle.std.specs.String.{string_bytes}
 
 pub loop-c-preserved : goal.loop-c-preserved
 loop-c-preserved c =

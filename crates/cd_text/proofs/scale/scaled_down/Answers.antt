@@ -1,6 +1,6 @@
-use Rattle.std.proofs.Common.{arith}
-use Rattle.cd_text.proofs.Powers.{down_all, down_far, down_near, down_none, down_few, few_small, far_small, near_small}
+use Rattle.cd_text.proofs.Powers.{down_all, down_far, down_few, down_near, down_none, far_small, few_small, near_small}
 use Rattle.cd_text.proofs.scale.scaled_down.Goals as goal
+use Rattle.std.proofs.Common.{arith}
 
 pub returns-then-shift-gt42-clause-value : goal.returns-then-shift-gt42-clause-value
 returns-then-shift-gt42-clause-value c = down_all c.args.n c.args.shift c.requires c.if-shift-gt42.true

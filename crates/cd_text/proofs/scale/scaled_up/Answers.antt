@@ -1,6 +1,6 @@
-use Rattle.std.proofs.Common.{arith}
-use Rattle.cd_text.proofs.Powers.{up_far, up_none, up_some, up_small}
+use Rattle.cd_text.proofs.Powers.{up_far, up_none, up_small, up_some}
 use Rattle.cd_text.proofs.scale.scaled_up.Goals as goal
+use Rattle.std.proofs.Common.{arith}
 
 pub returns-then-shift-gt24-clause-value : goal.returns-then-shift-gt24-clause-value
 returns-then-shift-gt24-clause-value c = up_far c.args.n c.args.shift c.requires c.if-shift-gt24.true

@@ -1,7 +1,7 @@
+use Rattle.cd_text.proofs.DigitRuns.{is_digit, one_more}
+use Rattle.cd_text.proofs.time.capped_value.Goals as goal
 use Rattle.std.proofs.Common.{arith}
 use Rattle.std.proofs.lemmas.Str.{digit_value_digit}
-use Rattle.cd_text.proofs.DigitRuns.{one_more, is_digit}
-use Rattle.cd_text.proofs.time.capped_value.Goals as goal
 
 pub loop-digit-preserved : goal.loop-digit-preserved
 loop-digit-preserved c =

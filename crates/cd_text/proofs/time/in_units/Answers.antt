@@ -1,6 +1,6 @@
-use Rattle.std.proofs.Common.{length, arith}
-use Rattle.cd_text.proofs.Seconds.{numerator_small, numerator_fits, units_fit}
+use Rattle.cd_text.proofs.Seconds.{numerator_fits, numerator_small, units_fit}
 use Rattle.cd_text.proofs.time.in_units.Goals as goal
+use Rattle.std.proofs.Common.{arith, length}
 
 pub overflow_mul-result : goal.overflow_mul-result
 overflow_mul-result c =

@@ -1,6 +1,6 @@
-use Rattle.cd_text.specs.Time.{further, parts}
-use Rattle.cd_text.proofs.Seconds.{past_end, before_end}
+use Rattle.cd_text.proofs.Seconds.{before_end, past_end}
 use Rattle.cd_text.proofs.time.valued.Goals as goal
+use Rattle.cd_text.specs.Time.{further, parts}
 
 pub returns-then-whole-eq-SECONDS_END : goal.returns-then-whole-eq-SECONDS_END
 returns-then-whole-eq-SECONDS_END c =

@@ -1,7 +1,7 @@
 use Rattle.cd_turn.proofs.Writes.{held_written, shows_written}
-use Rattle.cd_turn_tests.specs.Towers.{Rung, rung_by}
 use Rattle.cd_turn_tests.proofs.Counting.{one_more}
 use Rattle.cd_turn_tests.proofs.bell.ring_once.Goals as goal
+use Rattle.cd_turn_tests.specs.Towers.{Rung, rung_by}
 
 pub leave-requires-clause-held : goal.leave-requires-clause-held
 leave-requires-clause-held g c = let h = c.in-Ok.ensures in let pass = c.in-Ok.held.pass.now in rw h.turn (held_written rung_by _ pass.seat pass.face c.ring.new.self h.held)

@@ -1,7 +1,7 @@
 use Rattle.cd_turn.proofs.Writes.{shows_written}
-use Rattle.cd_turn_tests.specs.Counts.{Counts}
 use Rattle.cd_turn_tests.proofs.Counting.{one_more}
 use Rattle.cd_turn_tests.proofs.worker.turn_once.Goals as goal
+use Rattle.cd_turn_tests.specs.Counts.{Counts}
 
 pub leave-requires-clause-shows : goal.leave-requires-clause-shows
 leave-requires-clause-shows g c = let h = c.in-Ok.ensures in let seat = c.in-Ok.held.pass.now.seat in

@@ -1,8 +1,8 @@
-use Rattle.std.proofs.Common.{◌≡◌, ◌<◌, length, get_or, arith}
-use Rattle.std.proofs.lemmas.List.{get_or_default}
-use Rattle.std.proofs.lemmas.List.Edits.{map_over_more}
-use Rattle.cd_value.specs.Clean.{clean_byte}
 use Rattle.cd_value.proofs.field.clean_bytes.Goals as goal
+use Rattle.cd_value.specs.Clean.{clean_byte}
+use Rattle.std.proofs.Common.{arith, get_or, length, ◌<◌, ◌≡◌}
+use Rattle.std.proofs.lemmas.List.Edits.{map_over_more}
+use Rattle.std.proofs.lemmas.List.{get_or_default}
 
 pub loop-byte-preserved : goal.loop-byte-preserved
 loop-byte-preserved c =

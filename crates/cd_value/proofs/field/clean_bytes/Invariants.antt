@@ -1,6 +1,6 @@
-use Rattle.std.proofs.Common.{◌≡◌, ◌++◌, map, take, drop}
-use Rattle.cd_value.specs.Clean.{clean_byte}
 use Rattle.cd_value.proofs.field.clean_bytes.Given as goal
+use Rattle.cd_value.specs.Clean.{clean_byte}
+use Rattle.std.proofs.Common.{drop, map, take, ◌++◌, ◌≡◌}
 
 -- the bytes so far are replaced, and the others stand as they were
 abbrev pub invariant-loop-byte : goal.invariant-loop-byte

@@ -1,13 +1,13 @@
-use Rattle.std.proofs.Common.{◌≡◌, map, subst, sym, ap, ◌∙◌, rules}
+use Rattle.cd_value.proofs.Cleaned.{clean_field-kept, is_field-clean_field, slash-clean_field}
+use Rattle.cd_value.proofs.Fronts.{IsUtf8-clean}
+use Rattle.cd_value.proofs.field.clean_text.Goals as goal
+use Rattle.cd_value.specs.Clean.{clean_byte, clean_field}
+use Rattle.cd_value.specs.Identifier.{is_field, is_slash}
+use Rattle.std.proofs.Common.{ap, map, rules, subst, sym, ◌∙◌, ◌≡◌}
+use Rattle.std.proofs.lemmas.Str.{IsUtf8-string_bytes}
 use Rattle.std.specs.List.{list_any}
 use Rattle.std.specs.Str.{IsUtf8}
 use Rattle.std.specs.String.{string_bytes}
-use Rattle.std.proofs.lemmas.Str.{IsUtf8-string_bytes}
-use Rattle.cd_value.specs.Clean.{clean_byte, clean_field}
-use Rattle.cd_value.specs.Identifier.{is_field, is_slash}
-use Rattle.cd_value.proofs.Fronts.{IsUtf8-clean}
-use Rattle.cd_value.proofs.Cleaned.{is_field-clean_field, slash-clean_field, clean_field-kept}
-use Rattle.cd_value.proofs.field.clean_text.Goals as goal
 
 pub unwrap-string-requires : goal.unwrap-string-requires
 unwrap-string-requires c =

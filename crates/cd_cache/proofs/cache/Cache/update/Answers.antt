@@ -1,12 +1,12 @@
 -- What stands under the name of the list, and that the other names stay.
-use Rattle.std.proofs.Common.{◌≡◌, rules, Some, false, sym, ap, ◌∙◌}
-use Rattle.cd_value.specs.Identifier.{name_of}
+use Rattle.cd_cache.proofs.Updates.{others_after, stands_after, updated-fresh}
+use Rattle.cd_cache.proofs.cache.Cache.update.Goals as goal
 use Rattle.cd_cache.specs.Cache.{cached, is_old, outcome, renewed}
 use Rattle.cd_cache.specs.Renewal.{renewed_by}
 use Rattle.cd_cache.specs.declared.entry.CacheEntry.{CacheEntry}
 use Rattle.cd_cache.specs.declared.entry.Updated.TheVariants.{Stored}
-use Rattle.cd_cache.proofs.Updates.{others_after, stands_after, updated-fresh}
-use Rattle.cd_cache.proofs.cache.Cache.update.Goals as goal
+use Rattle.cd_value.specs.Identifier.{name_of}
+use Rattle.std.proofs.Common.{Some, ap, false, rules, sym, ◌∙◌, ◌≡◌}
 
 pub returns-in-Vacant-clause-after : goal.returns-in-Vacant-clause-after
 returns-in-Vacant-clause-after c = search rules

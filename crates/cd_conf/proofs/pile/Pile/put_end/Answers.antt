@@ -1,9 +1,9 @@
-use Rattle.std.proofs.Common.{List, ◌∙◌}
+use Rattle.cd_conf.proofs.Nesting.{closes, section_is}
+use Rattle.cd_conf.proofs.pile.Pile.put_end.Goals as goal
 use Rattle.cd_conf.specs.Statements.{Statement}
 use Rattle.cd_conf.specs.Tree.{item_step}
 use Rattle.cd_conf.specs.declared.item.Item.TheFolds.{fold-roll-Item}
-use Rattle.cd_conf.proofs.Nesting.{closes, section_is}
-use Rattle.cd_conf.proofs.pile.Pile.put_end.Goals as goal
+use Rattle.std.proofs.Common.{List, ◌∙◌}
 
 pub returns : goal.returns
 returns c o os was =

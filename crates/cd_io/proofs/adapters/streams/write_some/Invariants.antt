@@ -1,5 +1,5 @@
-use Rattle.std.specs.Io.KnownBytes.{Keeps}
 use Rattle.cd_io.proofs.adapters.streams.write_some.Given as goal
+use Rattle.std.specs.Io.KnownBytes.{Keeps}
 
 -- the calls so far failed, and wrote nothing
 abbrev pub invariant-loop : goal.invariant-loop

@@ -1,7 +1,7 @@
-use Rattle.std.proofs.Common.{◌≡◌, ℕ, length, take, drop, arith, ap, ◌∙◌, length-take}
+use Rattle.cd_io.proofs.memory.packets.copy_datagram.Goals as goal
+use Rattle.std.proofs.Common.{ap, arith, drop, length, length-take, take, ℕ, ◌∙◌, ◌≡◌}
 use Rattle.std.proofs.Math.Nat.{min_comm}
 use Rattle.std.proofs.lemmas.List.{take_at, take_min}
-use Rattle.cd_io.proofs.memory.packets.copy_datagram.Goals as goal
 
 pub returns-clause-front : goal.returns-clause-front
 returns-clause-front c =

@@ -1,15 +1,15 @@
-use Rattle.std.proofs.Common.{◌≡◌, ℕ, Bool, List, Option, Some, None, IfSome, IsSome, Result, Ok, Err, OnErr, ap, sym, subst, ◌∙◌}
+use Rattle.cd_io.proofs.Files.{found_at, opened_first, opens_first, opens_nothing}
+use Rattle.cd_io.proofs.memory.world.open_in.Goals as goal
+use Rattle.cd_io.specs.MemFile.{plan_of, shown}
+use Rattle.cd_io.specs.MemSource.{BeginsBy, PlanTells, tells_of, told_first}
+use Rattle.cd_io.specs.World.{later}
+use Rattle.cd_io.specs.declared.memory.file.MemFile.{MemFile}
+use Rattle.cd_io.specs.declared.memory.source.MemSource.{MemSource}
+use Rattle.std.proofs.Common.{Bool, Err, IfSome, IsSome, List, None, Ok, OnErr, Option, Result, Some, ap, subst, sym, ℕ, ◌∙◌, ◌≡◌}
 use Rattle.std.proofs.Math.Seq.{map-set_same}
 use Rattle.std.specs.List.{position, slice_get}
 use Rattle.std.specs.Option.{option_map}
 use Rattle.std.specs.Str.{bytes_eq}
-use Rattle.cd_io.specs.declared.memory.file.MemFile.{MemFile}
-use Rattle.cd_io.specs.declared.memory.source.MemSource.{MemSource}
-use Rattle.cd_io.specs.MemFile.{plan_of, shown}
-use Rattle.cd_io.specs.MemSource.{BeginsBy, PlanTells, tells_of, told_first}
-use Rattle.cd_io.specs.World.{later}
-use Rattle.cd_io.proofs.Files.{found_at, opened_first, opens_first, opens_nothing}
-use Rattle.cd_io.proofs.memory.world.open_in.Goals as goal
 
 pub returns-in_default-clause-found : goal.returns-in_default-clause-found
 returns-in_default-clause-found c =

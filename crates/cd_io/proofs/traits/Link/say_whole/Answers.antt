@@ -1,7 +1,7 @@
-use Rattle.std.proofs.Common.{◌≡◌, ◌-◌, length, take, drop, arith, length-drop, length-take}
-use Rattle.std.proofs.lemmas.Grind.{common_steps}
 use Rattle.cd_io.proofs.Speaking.{said_more}
 use Rattle.cd_io.proofs.traits.Link.say_whole.Goals as goal
+use Rattle.std.proofs.Common.{arith, drop, length, length-drop, length-take, take, ◌-◌, ◌≡◌}
+use Rattle.std.proofs.lemmas.Grind.{common_steps}
 
 pub loop-said-preserved : goal.loop-said-preserved
 loop-said-preserved g c =

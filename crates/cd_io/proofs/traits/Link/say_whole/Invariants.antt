@@ -1,6 +1,6 @@
-use Rattle.std.proofs.Common.{◌≤◌, ◌-◌, false, length}
-use Rattle.cd_io.specs.Link.{SaysWhole}
 use Rattle.cd_io.proofs.traits.Link.say_whole.Given as goal
+use Rattle.cd_io.specs.Link.{SaysWhole}
+use Rattle.std.proofs.Common.{false, length, ◌-◌, ◌≤◌}
 
 -- so many bytes were said so far
 abbrev pub invariant-loop-said : goal.invariant-loop-said

@@ -1,7 +1,7 @@
-use Rattle.std.proofs.Common.{refl, arith}
-use Rattle.std.proofs.lemmas.Bool.{ne_eqb}
-use Rattle.cd_net.specs.Carried.{with_field}
 use Rattle.cd_net.proofs.carried.Carried.take.Goals as goal
+use Rattle.cd_net.specs.Carried.{with_field}
+use Rattle.std.proofs.Common.{arith, refl}
+use Rattle.std.proofs.lemmas.Bool.{ne_eqb}
 
 -- a part of another kind changes none
 pub returns-in_default : goal.returns-in_default

@@ -1,7 +1,7 @@
-use Rattle.std.proofs.Common.{ap, sym, ◌∙◌}
-use Rattle.cd_net.specs.Clean.{cleaned}
 use Rattle.cd_net.proofs.Texts.{cleaned-stays}
 use Rattle.cd_net.proofs.field.Field.new.Goals as goal
+use Rattle.cd_net.specs.Clean.{cleaned}
+use Rattle.std.proofs.Common.{ap, sym, ◌∙◌}
 
 pub invariant_of-result : goal.invariant_of-result
 invariant_of-result c = record {

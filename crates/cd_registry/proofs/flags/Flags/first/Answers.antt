@@ -1,9 +1,9 @@
-use Rattle.std.proofs.Common.{ap, ◌∙◌}
-use Rattle.std.specs.List.{position}
-use Rattle.memchr.specs.Find.{is_byte}
-use Rattle.cd_registry.specs.Flags.{FlagList}
 use Rattle.cd_registry.proofs.Places.{first_up}
 use Rattle.cd_registry.proofs.flags.Flags.first.Goals as goal
+use Rattle.cd_registry.specs.Flags.{FlagList}
+use Rattle.memchr.specs.Find.{is_byte}
+use Rattle.std.proofs.Common.{ap, ◌∙◌}
+use Rattle.std.specs.List.{position}
 
 pub returns : goal.returns
 returns c =

@@ -1,9 +1,9 @@
-use Rattle.std.proofs.Common.{◌≡◌, Bool, true, false, set, refl, ap, ◌∙◌}
-use Rattle.std.specs.Bool.{◌==◌}
-use Rattle.std.proofs.lemmas.List.{map-set}
-use mir.Val.{bool_byte}
-use Rattle.cd_registry.specs.Flags.{FlagList}
 use Rattle.cd_registry.proofs.flags.Flags.set.Goals as goal
+use Rattle.cd_registry.specs.Flags.{FlagList}
+use Rattle.std.proofs.Common.{Bool, ap, false, refl, set, true, ◌∙◌, ◌≡◌}
+use Rattle.std.proofs.lemmas.List.{map-set}
+use Rattle.std.specs.Bool.{◌==◌}
+use mir.Val.{bool_byte}
 
 byte_is : (up : Bool) → (bool_byte up == 1) ≡ up
 byte_is true = refl

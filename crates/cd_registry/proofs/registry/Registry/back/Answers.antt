@@ -1,9 +1,9 @@
-use Rattle.std.proofs.Common.{arith, refl}
-use Rattle.cd_registry.specs.Rows.{after_back, IsProbeOut}
-use Rattle.cd_registry.specs.Slots.{row_of}
 use Rattle.cd_registry.proofs.Changed.{changed, fact_at, within}
 use Rattle.cd_registry.proofs.Kept.{ready_kept, room_kept}
 use Rattle.cd_registry.proofs.registry.Registry.back.Goals as goal
+use Rattle.cd_registry.specs.Rows.{IsProbeOut, after_back}
+use Rattle.cd_registry.specs.Slots.{row_of}
+use Rattle.std.proofs.Common.{arith, refl}
 
 pub invariant_of-self : goal.invariant_of-self
 invariant_of-self g c =

@@ -1,8 +1,8 @@
-use Rattle.std.proofs.Common.{refl, arith}
-use Rattle.cd_registry.specs.Rows.{after_close}
 use Rattle.cd_registry.proofs.Changed.{changed}
 use Rattle.cd_registry.proofs.Kept.{ready_kept, room_kept}
 use Rattle.cd_registry.proofs.registry.Registry.close.Goals as goal
+use Rattle.cd_registry.specs.Rows.{after_close}
+use Rattle.std.proofs.Common.{arith, refl}
 
 pub invariant_of-self : goal.invariant_of-self
 invariant_of-self g c = record {

@@ -1,10 +1,10 @@
-use Rattle.std.proofs.Common.{◌&&◌, refl, sym, ◌∙◌}
-use Rattle.cd_registry.specs.Registry.{rows}
-use Rattle.cd_registry.specs.Rows.{At, IsLive, has_kinds, is_live_as}
-use Rattle.cd_registry.specs.Slots.{has_slot_kinds, is_slot_live_as, row_of}
 use Rattle.cd_registry.proofs.Ats.{found_live, some_is}
 use Rattle.cd_registry.proofs.Places.{position-map}
 use Rattle.cd_registry.proofs.registry.Registry.find.Goals as goal
+use Rattle.cd_registry.specs.Registry.{rows}
+use Rattle.cd_registry.specs.Rows.{At, IsLive, has_kinds, is_live_as}
+use Rattle.cd_registry.specs.Slots.{has_slot_kinds, is_slot_live_as, row_of}
+use Rattle.std.proofs.Common.{refl, sym, ◌&&◌, ◌∙◌}
 
 pub returns-clause-number : goal.returns-clause-number
 returns-clause-number g c =

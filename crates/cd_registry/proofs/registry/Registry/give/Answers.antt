@@ -1,10 +1,10 @@
-use Rattle.std.proofs.Common.{ap, ◌∙◌, arith}
-use Rattle.std.proofs.lemmas.List.{get_or-set_same}
-use Rattle.cd_registry.specs.Rows.{after_give, IsPlugOut}
-use Rattle.cd_registry.specs.Slots.{is_slot_ready, row_of}
 use Rattle.cd_registry.proofs.Changed.{changed, within}
 use Rattle.cd_registry.proofs.Kept.{ready_set, room_kept}
 use Rattle.cd_registry.proofs.registry.Registry.give.Goals as goal
+use Rattle.cd_registry.specs.Rows.{IsPlugOut, after_give}
+use Rattle.cd_registry.specs.Slots.{is_slot_ready, row_of}
+use Rattle.std.proofs.Common.{ap, arith, ◌∙◌}
+use Rattle.std.proofs.lemmas.List.{get_or-set_same}
 
 pub invariant_of-self : goal.invariant_of-self
 invariant_of-self g c =

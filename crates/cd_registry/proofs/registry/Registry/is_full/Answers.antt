@@ -1,8 +1,8 @@
-use Rattle.std.proofs.Common.{nat_le, sym, ap, ◌∙◌}
-use Rattle.cd_registry.specs.declared.faults.TheConstants.{LIVE_LIMIT}
-use Rattle.cd_registry.specs.Slots.{row_of}
 use Rattle.cd_registry.proofs.Places.{count-map}
 use Rattle.cd_registry.proofs.registry.Registry.is_full.Goals as goal
+use Rattle.cd_registry.specs.Slots.{row_of}
+use Rattle.cd_registry.specs.declared.faults.TheConstants.{LIVE_LIMIT}
+use Rattle.std.proofs.Common.{ap, nat_le, sym, ◌∙◌}
 
 pub returns : goal.returns
 returns g c =

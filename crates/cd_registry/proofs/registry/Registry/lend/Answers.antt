@@ -1,10 +1,10 @@
-use Rattle.std.proofs.Common.{◌≡◌, arith, refl}
-use Rattle.cd_registry.specs.declared.place.Place.TheVariants.{ProbeHome}
-use Rattle.cd_registry.specs.Rows.{after_lend, IsProbeHome}
-use Rattle.cd_registry.specs.Slots.{row_of}
 use Rattle.cd_registry.proofs.Changed.{at_here, at_within, changed, fact_at, within}
 use Rattle.cd_registry.proofs.Kept.{ready_kept, room_kept}
 use Rattle.cd_registry.proofs.registry.Registry.lend.Goals as goal
+use Rattle.cd_registry.specs.Rows.{IsProbeHome, after_lend}
+use Rattle.cd_registry.specs.Slots.{row_of}
+use Rattle.cd_registry.specs.declared.place.Place.TheVariants.{ProbeHome}
+use Rattle.std.proofs.Common.{arith, refl, ◌≡◌}
 
 pub invariant_of-self : goal.invariant_of-self
 invariant_of-self g c =

@@ -1,11 +1,11 @@
-use Rattle.std.proofs.Common.{◌&&◌, sym, ◌∙◌}
-use Rattle.cd_registry.specs.Registry.{rows}
-use Rattle.cd_registry.specs.Rows.{has_kinds}
-use Rattle.cd_registry.specs.Slots.{row_of}
 use Rattle.cd_registry.proofs.Ats.{listening_live}
 use Rattle.cd_registry.proofs.Changed.{if_ok}
 use Rattle.cd_registry.proofs.Places.{numbers-map}
 use Rattle.cd_registry.proofs.registry.Registry.listening.Goals as goal
+use Rattle.cd_registry.specs.Registry.{rows}
+use Rattle.cd_registry.specs.Rows.{has_kinds}
+use Rattle.cd_registry.specs.Slots.{row_of}
+use Rattle.std.proofs.Common.{sym, ◌&&◌, ◌∙◌}
 
 pub returns-clause-numbers : goal.returns-clause-numbers
 returns-clause-numbers g c =

@@ -1,8 +1,8 @@
-use Rattle.std.proofs.Common.{refl, sym, ◌∙◌}
-use Rattle.cd_registry.specs.Rows.{is_live_as}
-use Rattle.cd_registry.specs.Slots.{is_slot_live_as, row_of}
 use Rattle.cd_registry.proofs.Places.{position-map}
 use Rattle.cd_registry.proofs.registry.Registry.live_as.Goals as goal
+use Rattle.cd_registry.specs.Rows.{is_live_as}
+use Rattle.cd_registry.specs.Slots.{is_slot_live_as, row_of}
+use Rattle.std.proofs.Common.{refl, sym, ◌∙◌}
 
 pub returns-clause-number : goal.returns-clause-number
 returns-clause-number g c =

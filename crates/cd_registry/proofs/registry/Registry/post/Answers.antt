@@ -1,10 +1,10 @@
-use Rattle.std.proofs.Common.{ap, ◌∙◌}
-use Rattle.std.proofs.lemmas.List.{get_or-set_same}
-use Rattle.cd_registry.specs.Rows.{after_post, IsLive}
-use Rattle.cd_registry.specs.Slots.{is_slot_ready, row_of}
 use Rattle.cd_registry.proofs.Changed.{changed, on_err, on_ok, unchanged, within}
 use Rattle.cd_registry.proofs.Kept.{ready_set, room_used}
 use Rattle.cd_registry.proofs.registry.Registry.post.Goals as goal
+use Rattle.cd_registry.specs.Rows.{IsLive, after_post}
+use Rattle.cd_registry.specs.Slots.{is_slot_ready, row_of}
+use Rattle.std.proofs.Common.{ap, ◌∙◌}
+use Rattle.std.proofs.lemmas.List.{get_or-set_same}
 
 pub invariant_of-self : goal.invariant_of-self
 invariant_of-self g c =

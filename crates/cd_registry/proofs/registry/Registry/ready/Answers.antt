@@ -1,10 +1,10 @@
-use Rattle.std.proofs.Common.{refl, sym, ap, ◌∙◌}
-use Rattle.std.specs.List.{position}
-use Rattle.cd_registry.specs.Rows.{is_ready}
-use Rattle.cd_registry.specs.Slots.{is_slot_ready, row_of}
 use Rattle.cd_registry.proofs.Kept.{ready_same}
 use Rattle.cd_registry.proofs.Places.{position-map}
 use Rattle.cd_registry.proofs.registry.Registry.ready.Goals as goal
+use Rattle.cd_registry.specs.Rows.{is_ready}
+use Rattle.cd_registry.specs.Slots.{is_slot_ready, row_of}
+use Rattle.std.proofs.Common.{ap, refl, sym, ◌∙◌}
+use Rattle.std.specs.List.{position}
 
 pub returns : goal.returns
 returns g c =

@@ -1,9 +1,9 @@
-use Rattle.std.proofs.Common.{refl}
-use Rattle.cd_registry.specs.Rows.{IsLive}
-use Rattle.cd_registry.specs.Slots.{row_of}
 use Rattle.cd_registry.proofs.Changed.{on_ok, unchanged, within}
 use Rattle.cd_registry.proofs.Kept.{ready_kept, room_kept, room_of}
 use Rattle.cd_registry.proofs.registry.Registry.reserve.Goals as goal
+use Rattle.cd_registry.specs.Rows.{IsLive}
+use Rattle.cd_registry.specs.Slots.{row_of}
+use Rattle.std.proofs.Common.{refl}
 
 pub invariant_of-self : goal.invariant_of-self
 invariant_of-self g c = record {

@@ -1,11 +1,11 @@
-use Rattle.std.proofs.Common.{◌≡◌, sym, ap, ◌∙◌, arith}
-use Rattle.std.proofs.lemmas.List.{length-map}
-use Rattle.cd_registry.specs.Faults.{retire_fault}
-use Rattle.cd_registry.specs.Rows.{after_retire, home_of}
-use Rattle.cd_registry.specs.Slots.{member_tells, row_of}
 use Rattle.cd_registry.proofs.Changed.{at_here, changed, if_ok, on_ok, shown_at}
 use Rattle.cd_registry.proofs.Kept.{marked_kept, room_there}
 use Rattle.cd_registry.proofs.registry.Registry.retire.Goals as goal
+use Rattle.cd_registry.specs.Faults.{retire_fault}
+use Rattle.cd_registry.specs.Rows.{after_retire, home_of}
+use Rattle.cd_registry.specs.Slots.{member_tells, row_of}
+use Rattle.std.proofs.Common.{ap, arith, sym, ◌∙◌, ◌≡◌}
+use Rattle.std.proofs.lemmas.List.{length-map}
 
 pub invariant_of-self : goal.invariant_of-self
 invariant_of-self g c = record {

@@ -1,9 +1,9 @@
-use Rattle.std.proofs.Common.{false, sym, ◌∙◌}
-use Rattle.cd_registry.specs.Rows.{after_take, IsHomeFor, IsReady}
-use Rattle.cd_registry.specs.Slots.{row_of}
 use Rattle.cd_registry.proofs.Changed.{at_here, at_within, changed, within}
 use Rattle.cd_registry.proofs.Kept.{ready_by, ready_set, room_kept}
 use Rattle.cd_registry.proofs.registry.Registry.take.Goals as goal
+use Rattle.cd_registry.specs.Rows.{IsHomeFor, IsReady, after_take}
+use Rattle.cd_registry.specs.Slots.{row_of}
+use Rattle.std.proofs.Common.{false, sym, ◌∙◌}
 
 pub invariant_of-self : goal.invariant_of-self
 invariant_of-self g c = record {

@@ -1,8 +1,8 @@
-use Rattle.std.proofs.Common.{◌≡◌, ℕ, ◌+◌, ◌-◌, ◌^◌, ◌<◌, ◌≤◌, ◌⊎◌, inl, inr, min, List, length, drop, sym, ap, ◌∙◌, arith}
+use Rattle.cd_registry.proofs.telling.TellingPlug.enter.Goals as goal
+use Rattle.cd_registry.specs.declared.calls.Answer.{Answer}
+use Rattle.std.proofs.Common.{List, ap, arith, drop, inl, inr, length, min, sym, ℕ, ◌+◌, ◌-◌, ◌<◌, ◌^◌, ◌∙◌, ◌≡◌, ◌≤◌, ◌⊎◌}
 use Rattle.std.proofs.lemmas.Bool.{cases_lt}
 use Rattle.std.proofs.lemmas.List.{drop-drop, drop_all}
-use Rattle.cd_registry.specs.declared.calls.Answer.{Answer}
-use Rattle.cd_registry.proofs.telling.TellingPlug.enter.Goals as goal
 
 -- one more answer given leaves those behind it, also where the count of given ones stands still, far behind them
 one_fewer : (answers : List Answer) (given next : ℕ) → length answers < 2 ^ 64 → next ≡ min (given + 1) (2 ^ 64 - 1) → drop next answers ≡ drop 1 (drop given answers)

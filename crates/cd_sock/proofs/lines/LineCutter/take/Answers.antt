@@ -1,6 +1,6 @@
-use Rattle.std.proofs.Common.{refl}
 use Rattle.cd_sock.proofs.Pieces.{held_more, takes_none, takes_some}
 use Rattle.cd_sock.proofs.lines.LineCutter.take.Goals as goal
+use Rattle.std.proofs.Common.{refl}
 
 pub invariant_of-self-in-None : goal.invariant_of-self-in-None
 invariant_of-self-in-None c = held_more c.self.inside.held.items c.args.piece.now c.hold.new.held.items c.self.invariant c.in-None.ensures c.in_ok-hold-in-None.ensures.ok

@@ -1,8 +1,8 @@
-use Rattle.std.proofs.Common.{◌≡◌, true, ap, subst, ◌∙◌, rules}
-use Rattle.cd_value.specs.Identifier.{Fields, fields_of, is_identifier, name_of, read_identifier}
+use Rattle.cd_value.proofs.Names.{fields_of-name_of, read_again, read_identifier-name_of}
 use Rattle.cd_value.proofs.Readable.{whole}
-use Rattle.cd_value.proofs.Names.{fields_of-name_of, read_identifier-name_of, read_again}
 use Rattle.cd_value.proofs.identifier.Identifier.name.Goals as goal
+use Rattle.cd_value.specs.Identifier.{Fields, fields_of, is_identifier, name_of, read_identifier}
+use Rattle.std.proofs.Common.{ap, rules, subst, true, ◌∙◌, ◌≡◌}
 
 pub returns-clause-shows : goal.returns-clause-shows
 returns-clause-shows c =

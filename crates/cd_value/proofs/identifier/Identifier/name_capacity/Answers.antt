@@ -1,8 +1,8 @@
-use Rattle.std.proofs.Common.{arith}
-use Rattle.cd_value.specs.declared.identifier.Identifier.TheInside.{Inside}
-use Rattle.cd_value.specs.Identifier.{Fields}
 use Rattle.cd_value.proofs.Readable.{field_lengths}
 use Rattle.cd_value.proofs.identifier.Identifier.name_capacity.Goals as goal
+use Rattle.cd_value.specs.Identifier.{Fields}
+use Rattle.cd_value.specs.declared.identifier.Identifier.TheInside.{Inside}
+use Rattle.std.proofs.Common.{arith}
 
 abbrev fields : Inside → Fields
 fields id = record { host = id.host; plugin = id.plugin; plugin_instance = id.plugin_instance; type_name = id.type_name; type_instance = id.type_instance }

@@ -1,12 +1,12 @@
-use Rattle.std.proofs.Common.{◌≡◌, true, false, List, ℕ, ap, subst, sym, ◌∙◌}
-use Rattle.std.specs.Prelude.{Ok}
-use Rattle.std.specs.List.{list_any}
-use Rattle.cd_value.specs.Parts.{shown}
-use Rattle.cd_value.specs.Identifier.{Fields, fields_of, has_bad_field, has_long_field, is_control, is_dash, is_identifier, name_of, plugin_part, read_identifier}
 use Rattle.cd_value.proofs.Cuts.{list_any_before_first}
 use Rattle.cd_value.proofs.Names.{read_again}
 use Rattle.cd_value.proofs.Readable.{readable}
 use Rattle.cd_value.proofs.identifier.Identifier.read.Goals as goal
+use Rattle.cd_value.specs.Identifier.{Fields, fields_of, has_bad_field, has_long_field, is_control, is_dash, is_identifier, name_of, plugin_part, read_identifier}
+use Rattle.cd_value.specs.Parts.{shown}
+use Rattle.std.proofs.Common.{List, ap, false, subst, sym, true, ℕ, ◌∙◌, ◌≡◌}
+use Rattle.std.specs.List.{list_any}
+use Rattle.std.specs.Prelude.{Ok}
 
 makes : (text : List ℕ) (id : Fields) → id ≡ fields_of text → list_any is_control text ≡ false → has_bad_field id ≡ false → has_long_field id ≡ false → is_identifier (fields_of text) ≡ true
 makes text id same plain bad long = readable text plain (ap has_bad_field (sym same) ∙ bad) (ap has_long_field (sym same) ∙ long)

@@ -1,6 +1,6 @@
-use Rattle.std.proofs.Common.{◌<◌, ◌-◌, ℕ, List, length, string_bytes, ap, sym, arith}
 use Rattle.cd_io.proofs.Files.{later_dropped}
 use Rattle.cd_io.proofs.memory.file.MemFile.advance.Goals as goal
+use Rattle.std.proofs.Common.{List, ap, arith, length, string_bytes, sym, ℕ, ◌-◌, ◌<◌}
 
 pub returns-then-len-self-gt1-clause-shown : goal.returns-then-len-self-gt1-clause-shown
 returns-then-len-self-gt1-clause-shown c =

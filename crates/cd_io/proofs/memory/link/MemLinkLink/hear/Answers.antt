@@ -1,10 +1,10 @@
-use Rattle.std.proofs.Common.{arith, drop, length-drop, refl}
-use Rattle.std.proofs.lemmas.Grind.{common_steps}
-use Rattle.cd_io.specs.MemLink.{tells_of}
 use Rattle.cd_io.proofs.Moves.{grows_none}
 use Rattle.cd_io.proofs.Speaking.{spoke_nothing}
 use Rattle.cd_io.proofs.Taken.{none_rest, taken_front, taken_rest}
 use Rattle.cd_io.proofs.memory.link.MemLinkLink.hear.Goals as goal
+use Rattle.cd_io.specs.MemLink.{tells_of}
+use Rattle.std.proofs.Common.{arith, drop, length-drop, refl}
+use Rattle.std.proofs.lemmas.Grind.{common_steps}
 
 pub returns-then-is_empty-clause-hears : goal.returns-then-is_empty-clause-hears
 returns-then-is_empty-clause-hears c = record {

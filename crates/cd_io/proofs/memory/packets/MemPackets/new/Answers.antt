@@ -1,6 +1,6 @@
-use Rattle.std.proofs.Common.{List, ℕ, ap, Some, []}
 use Rattle.cd_io.proofs.Coming.{told_of}
 use Rattle.cd_io.proofs.memory.packets.MemPackets.new.Goals as goal
+use Rattle.std.proofs.Common.{List, Some, [], ap, ℕ}
 
 pub returns-clause-tells : goal.returns-clause-tells
 returns-clause-tells c =

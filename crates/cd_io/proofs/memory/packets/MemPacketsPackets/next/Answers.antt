@@ -1,7 +1,7 @@
-use Rattle.std.proofs.Common.{◌<◌, length, get_or, arith, refl, ap, ◌∙◌}
-use Rattle.cd_io.specs.Datagrams.{as_datagram}
 use Rattle.cd_io.proofs.Coming.{one_came}
 use Rattle.cd_io.proofs.memory.packets.MemPacketsPackets.next.Goals as goal
+use Rattle.cd_io.specs.Datagrams.{as_datagram}
+use Rattle.std.proofs.Common.{ap, arith, get_or, length, refl, ◌<◌, ◌∙◌}
 
 pub returns-clause-nexts : goal.returns-clause-nexts
 returns-clause-nexts c =

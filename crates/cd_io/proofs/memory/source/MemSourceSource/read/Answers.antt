@@ -1,8 +1,8 @@
-use Rattle.std.proofs.Common.{◌≡◌, ◌≤◌, length, drop, Some, arith, ap, refl, length-drop, length-append}
-use Rattle.std.proofs.lemmas.Grind.{common_steps}
-use Rattle.std.proofs.lemmas.List.{nil_from_length}
 use Rattle.cd_io.proofs.Taken.{taken_rest}
 use Rattle.cd_io.proofs.memory.source.MemSourceSource.read.Goals as goal
+use Rattle.std.proofs.Common.{Some, ap, arith, drop, length, length-append, length-drop, refl, ◌≡◌, ◌≤◌}
+use Rattle.std.proofs.lemmas.Grind.{common_steps}
+use Rattle.std.proofs.lemmas.List.{nil_from_length}
 
 pub returns-clause-reads : goal.returns-clause-reads
 returns-clause-reads c =

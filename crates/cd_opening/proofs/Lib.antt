@@ -1,0 +1,4 @@
+pub mod Defaults
+pub mod Ending
+pub mod OneAnswer
+pub mod Reading

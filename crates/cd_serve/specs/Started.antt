@@ -1,0 +1,99 @@
+-- What is in force in a run, by what the files of its command come to.
+use Rattle.cd_command.specs.Command.{command}
+use Rattle.cd_command.specs.declared.command.Command.{Command}
+use Rattle.cd_daemon.specs.declared.Opening.{Opening}
+use Rattle.cd_io.specs.Causes.{Counts, Rose}
+use Rattle.cd_io.specs.World.{FileTells, WorldTells}
+use Rattle.cd_opening.specs.Opened.{ComesTo, IsDefault}
+use Rattle.cd_opening.specs.declared.fault.OpeningFault.TheVariants as faults
+use Rattle.cd_opening.specs.declared.fault.OpeningFault.{OpeningFault}
+use Rattle.cd_opening.specs.declared.opening.Opened.{Opened}
+use Rattle.cd_serve.specs.declared.end.End.TheVariants as ends
+use Rattle.cd_serve.specs.declared.end.End.{End}
+use Rattle.std.specs.List.{list_any}
+use Rattle.std.specs.Prelude.{Bool, Err, List, None, Ok, Option, Result, Some, false, true, ℕ, ◌≡◌}
+use Rattle.std.specs.Str.{bytes_eq}
+
+-- What the file of a command comes to, with the types files that it names; without one it is what is in force without a
+-- configuration.
+abbrev pub FilesComeTo : Option (List ℕ) → Option (List FileTells) → Result Opened OpeningFault → Type 0
+FilesComeTo (Some path) files read = ComesTo path files read
+FilesComeTo None files (Ok found) = IsDefault found
+FilesComeTo None files (Err fault) = fault ≡ faults.Memory
+
+-- the types and the settings of the whole daemon
+abbrev pub opening_of : Opened → Opening
+opening_of found = record { types = found.types; globals = found.settings.globals }
+
+-- whether a plug-in of the shelf is loaded, by its name: without a file each is, with one those that it loads
+abbrev pub loads : Option (List ℕ) → List (List ℕ) → List ℕ → Bool
+loads None loaded name = true
+loads (Some path) loaded name = list_any (λ other. bytes_eq other name) loaded
+
+module _ (words : List (List ℕ)) (files : Option (List FileTells)) where
+  -- the words are a command, and its files have this first fault
+  pub record HasFault (fault : OpeningFault) : Type 0 where
+    pub of : Command
+    pub is : command words ≡ Some of
+    pub comes : FilesComeTo of.file files (Err fault)
+
+  -- why a run ends so before its command is run; want of memory has no cause
+  abbrev pub IsRefusedAt : End → Type 0
+  IsRefusedAt ends.Usage = command words ≡ None
+  IsRefusedAt (ends.ConfFault fault) = HasFault (faults.Conf fault)
+  IsRefusedAt (ends.TypesFault path fault) = HasFault (faults.Types path fault)
+  IsRefusedAt (ends.SettingsFault fault) = HasFault (faults.Settings fault)
+  IsRefusedAt (ends.OpenFault path) = HasFault (faults.Open path)
+  IsRefusedAt (ends.ReadFault path) = HasFault (faults.Read path)
+  IsRefusedAt ends.Memory = Unit {0}
+  IsRefusedAt _ = ⊥
+
+-- the end of a run whose files have this first fault
+abbrev pub end_at : OpeningFault → End
+end_at (faults.Conf fault) = ends.ConfFault fault
+end_at (faults.Types path fault) = ends.TypesFault path fault
+end_at (faults.Settings fault) = ends.SettingsFault fault
+end_at (faults.Open path) = ends.OpenFault path
+end_at (faults.Read path) = ends.ReadFault path
+end_at faults.Memory = ends.Memory
+
+-- ---- when files may be called ones that couldn't be opened, or couldn't be read
+
+abbrev pub is_open_fault : End → Bool
+is_open_fault (ends.OpenFault path) = true
+is_open_fault _ = false
+
+abbrev pub is_read_fault : End → Bool
+is_read_fault (ends.ReadFault path) = true
+is_read_fault _ = false
+
+-- The world's count of faults rose exactly where the end is that a file couldn't be opened, and its count of reading
+-- faults exactly where it is that one couldn't be read.
+pub record HasTried (end : End) (before after : WorldTells) : Type 0 where
+  pub faults : Counts (is_open_fault end) before.faults after.faults
+  pub reading_faults : Counts (is_read_fault end) before.reading_faults after.reading_faults
+
+-- ---- which end has to come
+
+-- no count of the world rose
+pub record NoneFailed (before after : WorldTells) : Type 0 where
+  pub faults : Rose before.faults after.faults → ⊥
+  pub reading_faults : Rose before.reading_faults after.reading_faults → ⊥
+
+-- the world tells files that are accepted, or none is named
+abbrev pub AreAccepted : Option (List ℕ) → Option (List FileTells) → Type 0
+AreAccepted None files = Unit {0}
+AreAccepted (Some path) None = ⊥
+AreAccepted (Some path) (Some files) = (found : Opened) × ComesTo path (Some files) (Ok found)
+
+-- a fault of a text
+abbrev pub IsOfText : OpeningFault → Type 0
+IsOfText (faults.Conf fault) = Unit {0}
+IsOfText (faults.Types path fault) = Unit {0}
+IsOfText (faults.Settings fault) = Unit {0}
+IsOfText _ = ⊥
+
+-- the world tells files whose texts have this first fault
+abbrev pub AreRefused : Option (List ℕ) → Option (List FileTells) → OpeningFault → Type 0
+AreRefused (Some path) (Some files) fault = IsOfText fault × ComesTo path (Some files) (Err fault)
+AreRefused _ _ fault = ⊥

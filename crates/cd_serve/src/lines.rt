@@ -1,0 +1,122 @@
+//! `--lines`: the lines of the input are served.
+ghost use Rattle.cd_registry.specs.Faults.{is_reserved};
+ghost use Rattle.cd_serve.specs.Promises.{PromisesLines};
+ghost use Rattle.cd_serve.specs.Shelf.{on_shelf, places};
+ghost use Rattle.cd_serve.specs.Started.{loads, opening_of};
+ghost use Rattle.cd_serve.specs.Working.Progress.{begun_with, seen_of, writes_first};
+ghost use Rattle.std.specs.List.{list_any};
+ghost use Rattle.std.specs.Prelude.{length, ◌≡◌, ◌≤◌};
+ghost use Rattle.std.specs.Str.{bytes_eq};
+
+use crate::daemon::Daemon;
+use crate::end::end_of;
+use crate::outside::{Around, Outside};
+use crate::program::{INPUT_LIMIT, RanOf};
+use crate::{ShelvedOf, ShelvedProbeOf};
+use cd_cache::Cache;
+use cd_dialogue::serve_all;
+use cd_globals::Globals;
+use cd_io::{Clock, Dice, Link};
+use cd_opening::Opened;
+use cd_registry::{Kinds, Plug};
+use cd_types::TypesDb;
+use cd_value::{Names, Sequence, Text};
+use std::alloc::Global;
+
+/// Whether a name is one of the daemon's own.
+fn is_reserved(name: &Text) -> bool
+    ensures { result ≡ is_reserved name.now }
+{
+    matches!(name.as_str(), "threshold" | "unixsock" | "network")
+}
+
+/// Whether a name is among these.
+fn is_among(name: &str, names: &Names) -> bool
+    ensures { result ≡ list_any (λ other. bytes_eq other name.now) names.now }
+{
+    names.as_slice().iter().any(|other| other.as_str() == name)
+}
+
+/// Whether the plug-in of a name is loaded: without a file each is, with one those that it loads.
+fn is_loaded(file: &Option<Text>, loaded: &Names, name: &Text) -> bool
+    ensures { result ≡ loads file.now loaded.now name.now }
+{
+    match file {
+        None => true,
+        Some(_) => is_among(name.as_str(), loaded),
+    }
+}
+
+/// Whether the first plug-in is loaded, registered and called with lists.
+fn writes_first<P: Plug>(file: &Option<Text>, loaded: &Names, shelf: &[ShelvedOf<P>]) -> bool
+    ensures { result ≡ writes_first (loads file.now loaded.now) (on_shelf P.plug_tells shelf.now) }
+{
+    match shelf.first() {
+        Some(plug) => is_loaded(file, loaded, &plug.name)
+            && !is_reserved(&plug.name)
+            && plug.kinds.has(Kinds::WRITE),
+        None => false,
+    }
+}
+
+/// A daemon before the first line, with these types and settings, and `writer` where the first plug-in is registered
+/// and called with lists.
+fn begin<O: Outside>(
+    alloc: Global,
+    types: TypesDb,
+    globals: Globals,
+    outside: O,
+    writer: bool,
+) -> Daemon<O>
+    ensures { seen_of O.outside_pairs O.outside_shelf result ≡ begun_with
+        (record { types = types; globals = globals }) writer
+        (O.outside_shelf outside) (O.outside_pairs outside) }
+{
+    let cache = Cache::new(alloc, globals.timeout);
+    Daemon {
+        types,
+        globals,
+        outside,
+        writer,
+        cache,
+        given: Sequence::new(alloc),
+    }
+}
+
+/// Serves the lines of the input with what is in force, and the plug-ins of the shelf that the file loads, where one is
+/// named. The objects come back.
+pub(crate) fn serve_lines<C: Clock, D: Dice, L: Link, P: Plug, Q: Drop>(
+    alloc: Global,
+    file: &Option<Text>,
+    found: Opened,
+    input: &mut L,
+    outside: Around<C, D, P>,
+    probes: Vec<ShelvedProbeOf<Q>>,
+) -> RanOf<P, Q>
+    requires few { length outside.plugs.items ≤ 1 }
+    ensures serves { PromisesLines (opening_of found) (loads file.now found.settings.loaded)
+        (on_shelf P.plug_tells outside.plugs.items) (on_shelf P.plug_tells result.plugs.items)
+        result.given
+        (record { clock = C.clock_pair outside.clock; dice = D.dice_pair outside.dice })
+        (L.link_tells input.old) (L.link_tells input.new)
+        result.end }
+    ensures back { places (on_shelf P.plug_tells result.plugs.items)
+        ≡ places (on_shelf P.plug_tells outside.plugs.items) }
+    ensures probes { result.probes.items ≡ probes.items }
+{
+    let Opened {
+        types,
+        settings,
+        ..
+    } = found;
+    let writer = writes_first(file, &settings.loaded, outside.plugs.as_slice());
+    let mut daemon = begin(alloc, types, settings.globals, outside, writer);
+    let served = serve_all(alloc, input, &mut daemon, INPUT_LIMIT);
+    let Daemon { outside, given, .. } = daemon;
+    RanOf {
+        end: end_of(served),
+        given,
+        plugs: outside.plugs,
+        probes,
+    }
+}

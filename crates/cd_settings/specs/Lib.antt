@@ -1,0 +1,9 @@
+pub mod Bounds
+pub mod Faults
+pub mod Forms
+pub mod GlobalOptions
+pub mod Paths
+pub mod PluginOptions
+pub mod Settings
+pub mod Tables
+pub mod TopLevel

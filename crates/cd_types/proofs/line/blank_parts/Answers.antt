@@ -1,0 +1,8 @@
+use Rattle.cd_types.proofs.line.blank_parts.Goals as goal
+use Rattle.cd_types.specs.Line.{is_blank}
+use Rattle.std.proofs.Common.{rules}
+use Rattle.std.proofs.lemmas.Iterator.Consumers.{map_from_collect}
+use Rattle.std.proofs.lemmas.Iterator.Splits.{YieldsList-from_slice_split}
+
+pub returns : goal.returns
+returns c = map_from_collect _ c.collect.ensures.ran (YieldsList-from_slice_split _ is_blank c.args.line.now c.split.ensures.rest c.split.ensures.done c.split.ensures.closure (λ x b q k. search rules))
