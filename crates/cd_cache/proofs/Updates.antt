@@ -14,7 +14,7 @@ use Rattle.std.specs.Ordering.{is_eq, match_ordering}
 use Rattle.std.specs.declared.cmp.Ordering.TheVariants.{Equal, Greater, Less}
 
 -- an entry that is put leaves the others
-lookup-insert_other : (name other : List ℕ) (entry : CacheEntry) (entries : List (List ℕ × CacheEntry)) → other ≢ name
+pub lookup-insert_other : (name other : List ℕ) (entry : CacheEntry) (entries : List (List ℕ × CacheEntry)) → other ≢ name
     → lookup (is_at (name_order other)) (insert_entry name_order entries name entry) ≡ lookup (is_at (name_order other)) entries
 lookup-insert_other name other entry [] differ =
     ap (λ b. cond b (Some entry) None) (apart other name (λ e. differ (sym e)))
@@ -54,7 +54,7 @@ updated-fresh set list now cache before entry there fresh same =
     ∙ sym (ap (λ b. cond b cache (with_entry (name_of list.id) (entry_of set list now cache) cache)) old)
 
 -- the entry that is put stands under its name
-lookup-insert_same : (name : List ℕ) (entry : CacheEntry) (entries : List (List ℕ × CacheEntry))
+pub lookup-insert_same : (name : List ℕ) (entry : CacheEntry) (entries : List (List ℕ × CacheEntry))
     → lookup (is_at (name_order name)) (insert_entry name_order entries name entry) ≡ Some entry
 lookup-insert_same name entry [] = ap (λ b. cond b (Some entry) None) (itself name)
 lookup-insert_same name entry (pair ∷ entries) =

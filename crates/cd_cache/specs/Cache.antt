@@ -72,3 +72,9 @@ abbrev pub updated : DataSet → ValueList → ℕ → CacheMap → CacheMap
 updated set list now cache =
     if is_old (cached (name_of list.id) cache) list then cache
     else with_entry (name_of list.id) (entry_of set list now cache) cache
+
+-- the rates that a list would have in the cache: none where it is old
+abbrev pub preview_of : DataSet → ValueList → CacheMap → Option (List Rate)
+preview_of set list cache =
+    if is_old (cached (name_of list.id) cache) list then None
+    else Some (rates_against set (cached (name_of list.id) cache) list)

@@ -1,4 +1,5 @@
 pub mod Cache
+pub mod Index
 pub mod Lost
 pub mod Rates
 pub mod Rows

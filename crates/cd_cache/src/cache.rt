@@ -1,17 +1,22 @@
 //! The cache and its calls.
-ghost use Rattle.cd_cache.specs.Cache.{KeepsOthers, cached, empty, entry_of, name_order, outcome, updated, without};
-ghost use Rattle.cd_cache.specs.Lost.{lost_of};
+ghost use Rattle.cd_cache.specs.Cache.{KeepsOthers, cached, cached_rates, empty, entry_of, name_order, outcome, preview_of, updated, without};
+ghost use Rattle.cd_cache.specs.Index.{IsIndexOf, by_name, found, has, is_same, kept, outcome_at};
+ghost use Rattle.cd_cache.specs.Lost.{expiry, lost_of};
 ghost use Rattle.cd_cache.specs.Rows.{names_of, rows_of};
 ghost use Rattle.cd_value.specs.Identifier.{name_of};
 ghost use Rattle.std.specs.List.Sorted.{IsStrictlySortedBy};
-ghost use Rattle.std.specs.Prelude.{IfOk, None, OnErr, OnOk, Some, is_some, option_copied, ◌≡◌};
+ghost use Rattle.std.specs.Map.Iter.{deref_pair};
+ghost use Rattle.std.specs.Prelude.{IfOk, IfSome, IsNone, List, None, OnErr, OnOk, Some, cond, false, is_some, length, map, option_copied, true, ℕ, ◌+◌, ◌<◌, ◌^◌, ◌↔◌, ◌≡◌, ◌≤◌};
+ghost use Rattle.std.specs.Str.{bytes_eq};
 
+use crate::entry::moment_after;
+use crate::index::Index;
+use crate::rates::rates_against;
 use crate::renewal::Renewal;
-use crate::{CacheEntry, Updated};
+use crate::{CacheEntry, HashKey, Updated};
 use cd_value::{DataSet, Memory, Names, RateView, Rates, Rows, Text, TryCopy, ValueList};
 use std::alloc::Global;
-use std::collections::BTreeMap;
-use std::collections::btree_map::Entry;
+use std::collections::{BTreeMap, HashMap};
 use std::marker::Model;
 
 /// The value cache: the last value list of each name, which is the printed identifier, as in
@@ -19,7 +24,9 @@ use std::marker::Model;
 #[derive(Drop)]
 pub struct Cache {
     timeout: u32,
-    entries: BTreeMap<Text, CacheEntry>,
+    entries: HashMap<Text, CacheEntry, HashKey>,
+    /// Each name once, with the moment from which on its entry counts as missing.
+    index: Index,
 }
 
 impl Model for Cache {
@@ -27,7 +34,12 @@ impl Model for Cache {
 
     ghost Value = { CacheMap };
 
-    ghost view = { λ cache. record { timeout = cache.timeout; entries = cache.entries.entries } };
+    ghost use Rattle.cd_cache.specs.Index.{IsIndexOf, by_name};
+
+    ghost view = { λ cache.
+        record { timeout = cache.timeout; entries = by_name cache.entries.entries } };
+
+    ghost invariant = { λ cache. IsIndexOf cache.timeout cache.entries.entries cache.index };
 }
 
 impl RateView for Cache {
@@ -42,13 +54,21 @@ impl RateView for Cache {
 
 impl Cache {
     /// An empty cache. A list counts as missing when no newer one came within `timeout` of its
-    /// intervals, as in collectd.conf(5), Timeout.
+    /// intervals, as in collectd.conf(5), Timeout. The key of its hashes is a fixed one.
     pub fn new(alloc: Global, timeout: u32) -> Cache
+        ensures { result ≡ empty timeout }
+    {
+        Cache::keyed(alloc, timeout, HashKey::new(0, 0))
+    }
+
+    /// An empty cache, as `new` makes it, with that key of its hashes.
+    pub fn keyed(alloc: Global, timeout: u32, key: HashKey) -> Cache
         ensures { result ≡ empty timeout }
     {
         Cache {
             timeout,
-            entries: BTreeMap::new(alloc),
+            entries: HashMap::with_hasher(alloc, key),
+            index: Index::new(alloc),
         }
     }
 
@@ -73,20 +93,48 @@ impl Cache {
         ensures others { KeepsOthers (name_of list.now.id) self.old self.new }
     {
         let name = list.id.name(alloc)?;
-        let place = match self.entries.entry(name)? {
-            Entry::Occupied(place) => place,
-            Entry::Vacant(place) => {
-                let first = || CacheEntry::first(alloc, set, list, now);
-                Entry::Vacant(place).or_try_insert_with(first)?;
-                return Ok(Updated::Stored);
-            }
+        let timeout = self.timeout;
+        let Some(place) = self.entries.get_mut(&name) else {
+            let entry = CacheEntry::first(alloc, set, list, now)?;
+            put_first(
+                alloc,
+                &mut self.entries,
+                &mut self.index,
+                timeout,
+                name,
+                entry,
+            )?;
+            return Ok(Updated::Stored);
         };
-        if place.get().is_as_new_as(list) {
-            return Ok(Updated::Old);
+        renew(alloc, place, &mut self.index, timeout, name, list, set, now)
+    }
+
+    /// The rates that `update` would store with a list of that data set, and `None` where it would
+    /// answer `Old`. The cache stays: so a chain behind it, PostCacheChain of collectd.conf(5), can
+    /// run before anything is changed.
+    pub fn preview(
+        &self,
+        alloc: Global,
+        list: &ValueList,
+        set: &DataSet,
+    ) -> Result<Option<Rates>, Memory>
+        ensures rates { IfOk result (λ rates. rates ≡ preview_of set.now list.now self.now) }
+
+        // What this is of `update`.
+        ensures old { IfOk result (λ rates. IsNone rates ↔ (outcome list.now self.now ≡ Updated.Old)) }
+        ensures stored { IfOk result (λ rates. IfSome rates (λ stored. (now : ℕ) →
+            cached_rates (updated set.now list.now now self.now) (name_of list.now.id) ≡ Some stored)) }
+    {
+        let name = list.id.name(alloc)?;
+        let Some(before) = self.get(&name) else {
+            let first = rates_against(alloc, set, None, list)?;
+            return Ok(Some(first));
+        };
+        if before.is_as_new_as(list) {
+            return Ok(None);
         }
-        let renewal = Renewal::of(alloc, set, place.get(), list)?;
-        place.into_mut().renew(renewal, list, now);
-        Ok(Updated::Stored)
+        let rates = rates_against(alloc, set, Some(before), list)?;
+        Ok(Some(rates))
     }
 
     /// The entry of a name.
@@ -101,8 +149,9 @@ impl Cache {
         ensures rows { IfOk result (λ rows. rows ≡ rows_of self.now) }
         ensures sorted { IfOk result (λ rows. IsStrictlySortedBy name_order (names_of rows)) }
     {
-        let mut rows = Vec::with_capacity(alloc, self.entries.len())?;
-        for (name, entry) in self.entries.iter() {
+        let sorted = sorted(alloc, &self.entries)?;
+        let mut rows = Vec::with_capacity(alloc, sorted.len())?;
+        for (name, entry) in sorted.iter() {
             rows.push((entry.list.time, name.copy(alloc)?))?;
         }
         Ok(Rows::from_vec(rows))
@@ -115,12 +164,25 @@ impl Cache {
         ensures names { IfOk result (λ names. names ≡ lost_of now self.now) }
         ensures sorted { IfOk result (λ names. IsStrictlySortedBy name_order names) }
     {
-        let mut names = Vec::new(alloc);
-        for (name, entry) in self.entries.iter() {
-            if entry.is_lost(self.timeout, now) {
-                names.push(name.copy(alloc)?)?;
-            }
+        self.lost_with(alloc, now, &mut 0)
+    }
+
+    /// What `lost` answers. The number of names that were looked at is added to `looks`: at most one
+    /// more than are given.
+    pub fn lost_with(&self, alloc: Global, now: u64, looks: &mut u64) -> Result<Names, Memory>
+        requires { looks.old < 2 ^ 63 }
+        ensures names { IfOk result (λ names. names ≡ lost_of now self.now) }
+        ensures sorted { IfOk result (λ names. IsStrictlySortedBy name_order names) }
+        ensures looks { IfOk result (λ names. looks.new ≤ looks.old + length names + 1) }
+        ensures err { OnErr result (looks.new ≡ looks.old) }
+    {
+        let found = self.index.lost(alloc, now)?;
+        let (lost, looked) = found;
+        let mut names = Vec::with_capacity(alloc, lost.len())?;
+        for name in &lost {
+            names.push(name.copy(alloc)?)?;
         }
+        *looks += looked;
         Ok(Names::from_vec(names))
     }
 
@@ -131,6 +193,84 @@ impl Cache {
         ensures gone { cached name.now self.new ≡ None }
         ensures others { KeepsOthers name.now self.old self.new }
     {
-        self.entries.remove(name).is_some()
+        let timeout = self.timeout;
+        let Some((name, entry)) = self.entries.remove_entry(name) else {
+            return false;
+        };
+        self.index.take_out(&(entry.expiry(timeout), name));
+        true
     }
+}
+
+/// Renews the entry of a name by a list, where it is newer, and moves the name in the index.
+fn renew(
+    alloc: Global,
+    place: &mut CacheEntry,
+    index: &mut Index,
+    timeout: u32,
+    name: Text,
+    list: &ValueList,
+    set: &DataSet,
+    now: u64,
+) -> Result<Updated, Memory>
+    requires { has index.old (expiry timeout place.old, name) ≡ true }
+    ensures how { IfOk result (λ how. how ≡ outcome_at (Some place.old) list.now) }
+    ensures ok { OnOk result (place.new ≡ kept set.now place.old list.now now) }
+    ensures moved { OnOk result ((q : ℕ × List ℕ) → has index.new q
+        ≡ cond (is_same (expiry timeout place.new, name) q) true
+        (cond (is_same (expiry timeout place.old, name) q) false (has index.old q))) }
+    ensures err { OnErr result (place.new ≡ place.old) }
+    ensures still { OnErr result (index.new ≡ index.old) }
+{
+    if place.is_as_new_as(list) {
+        return Ok(Updated::Old);
+    }
+    let renewal = Renewal::of(alloc, set, place, list)?;
+    let from = place.expiry(timeout);
+    index.shift(alloc, name, from, moment_after(timeout, now, list.interval))?;
+    place.renew(renewal, list, now);
+    Ok(Updated::Stored)
+}
+
+/// Puts the first entry of a name into a map and its index.
+fn put_first(
+    alloc: Global,
+    entries: &mut HashMap<Text, CacheEntry, HashKey>,
+    index: &mut Index,
+    timeout: u32,
+    name: Text,
+    entry: CacheEntry,
+) -> Result<(), Memory>
+    requires absent { found entries.old.entries name ≡ None }
+    requires indexed { IsIndexOf timeout entries.old.entries index.old }
+    ensures ok { OnOk result ((q : List ℕ) → found entries.new.entries q
+        ≡ cond (bytes_eq name q) (Some entry) (found entries.old.entries q)) }
+    ensures err { OnErr result (entries.new.entries ≡ entries.old.entries) }
+    ensures indexed { IsIndexOf timeout entries.new.entries index.new }
+{
+    let at = entry.expiry(timeout);
+    index.add(at, name.copy(alloc)?)?;
+    match entries.insert(name, entry) {
+        Ok(_) => Ok(()),
+        Err(refused) => {
+            let (name, _) = refused.value;
+            index.take_out(&(at, name));
+            Err(Memory)
+        }
+    }
+}
+
+/// The entries of a map in the order of their names.
+fn sorted<'a>(
+    alloc: Global,
+    entries: &'a HashMap<Text, CacheEntry, HashKey>,
+) -> Result<BTreeMap<&'a Text, &'a CacheEntry>, Memory>
+    ensures { IfOk result
+        (λ sorted. map deref_pair sorted.entries ≡ by_name entries.now.entries) }
+{
+    let mut sorted = BTreeMap::new(alloc);
+    for (name, entry) in entries.iter() {
+        sorted.insert(name, entry)?;
+    }
+    Ok(sorted)
 }

@@ -1,6 +1,6 @@
 //! What the cache keeps.
-ghost use Rattle.cd_cache.specs.Lost.{expiry, is_lost};
-ghost use Rattle.std.specs.Prelude.{◌≡◌};
+ghost use Rattle.cd_cache.specs.Lost.{expiry};
+ghost use Rattle.std.specs.Prelude.{◌*◌, ◌+◌, ◌≡◌};
 
 use cd_value::{Rates, ValueList};
 
@@ -18,15 +18,15 @@ impl CacheEntry {
     pub(crate) fn expiry(&self, timeout: u32) -> u128
         ensures { result ≡ expiry timeout self.now }
     {
-        u128::from(self.arrival) + u128::from(timeout) * u128::from(self.list.interval)
+        moment_after(timeout, self.arrival, self.list.interval)
     }
+}
 
-    /// Whether it counts as missing at a moment.
-    pub(crate) fn is_lost(&self, timeout: u32, now: u64) -> bool
-        ensures { result ≡ is_lost timeout now self.now }
-    {
-        self.expiry(timeout) <= u128::from(now)
-    }
+/// The moment that many intervals after an arrival.
+pub(crate) fn moment_after(timeout: u32, arrival: u64, interval: u64) -> u128
+    ensures { result ≡ arrival + timeout * interval }
+{
+    u128::from(arrival) + u128::from(timeout) * u128::from(interval)
 }
 
 /// What became of a value list in the cache.

@@ -3,18 +3,22 @@
 //!
 //! Read first `specs/Cache.antt`: what a cache is to contracts, and what a list makes of it;
 //! `specs/Rates.antt` has the rates, `specs/Lost.antt` the names that are lost. A `Cache` is seen
-//! as its timeout and a finite map from names, whatever body keeps it; the body's own type keeps
-//! each name once. Begin a change at `cache.rt`; `renewal.rt` has what a newer list brings to the
-//! entry of its name.
+//! as its timeout and a finite map from names in their order. Its body is a hashed map and beside
+//! it an index of the names by the moment from which on they count as missing; its type keeps that
+//! the index has exactly one pair a name (`specs/Index.antt`). Begin a change at `cache.rt`;
+//! `index.rt` has the index, `renewal.rt` what a newer list brings to the entry of its name.
 #![tactic(auto)]
 
 mod cache;
 mod entry;
+mod index;
+mod key;
 mod rates;
 mod renewal;
 
 pub use cache::Cache;
 pub use entry::{CacheEntry, Updated};
+pub use key::HashKey;
 
 #[cfg(test)]
 mod tests;

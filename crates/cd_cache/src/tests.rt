@@ -1,5 +1,5 @@
 //! Lists worked by hand, one after another.
-use crate::{Cache, Updated};
+use crate::{Cache, HashKey, Updated};
 use cd_value::{
     DataSet, DataSource, DsType, Identifier, Memory, RateView, SECOND, Sequence, Text, Value,
     ValueList,
@@ -40,6 +40,22 @@ fn cached(cache: &Cache, name: &Text) -> Option<(u64, Value, u64, Option<i128>)>
     Some((entry.list.time, *value, entry.arrival, rate.millionths()))
 }
 
+/// The first rate in millionths that a list would have.
+fn previewed(
+    alloc: Global,
+    cache: &Cache,
+    list: &ValueList,
+    set: &DataSet,
+) -> Result<Option<i128>, Memory> {
+    let Some(rates) = cache.preview(alloc, list, set)? else {
+        return Ok(None);
+    };
+    let Some(rate) = rates.as_slice().first() else {
+        return Ok(None);
+    };
+    Ok(rate.millionths())
+}
+
 #[test]
 fn counter_in_ten_seconds(rt: HostRuntime) -> Result<(), Fail> {
     let alloc = rt.alloc();
@@ -77,7 +93,9 @@ fn gauges_are_their_own_rates(rt: HostRuntime) -> Result<(), Fail> {
     let mut cache = Cache::new(alloc, 2);
     for (time, level) in [(1, Some(1_260_000)), (2, Some(0)), (3, None)] {
         let list = list_of(alloc, "h/p/gauge", time, Value::Gauge(level))?;
+        assert_eq!(rt; previewed(alloc, &cache, &list, &set)?, level);
         assert_eq!(rt; cache.update(alloc, &list, &set, 5)?, Updated::Stored);
+        assert_eq!(rt; previewed(alloc, &cache, &list, &set)?, None);
         let after = (time, Value::Gauge(level), 5, level);
         assert_eq!(rt; cached(&cache, &name), Some(after));
     }
@@ -139,5 +157,23 @@ fn names_are_lost_after_two_intervals(rt: HostRuntime) -> Result<(), Fail> {
         }
         assert_eq!(rt; printed.as_str(), lost, "at {now}");
     }
+    Ok(())
+}
+
+#[test]
+fn a_look_at_lost_names_ends_soon(rt: HostRuntime) -> Result<(), Fail> {
+    let alloc = rt.alloc();
+    let set = set_of(alloc, "gauge", DsType::Gauge)?;
+    let mut cache = Cache::keyed(alloc, 2, HashKey::new(3, 5));
+    for arrival in 1..=1000u64 {
+        let name = format!(in alloc; "h/p-{arrival}/gauge")?;
+        let list = list_of(alloc, name.as_str(), 1, Value::Gauge(None))?;
+        let now = arrival * SECOND;
+        assert_eq!(rt; cache.update(alloc, &list, &set, now)?, Updated::Stored);
+    }
+    let mut looks = 0;
+    let lost = cache.lost_with(alloc, 23 * SECOND, &mut looks)?;
+    assert_eq!(rt; lost.as_slice().len(), 3);
+    assert!(rt; looks <= 4);
     Ok(())
 }
