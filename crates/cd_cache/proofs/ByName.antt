@@ -1,5 +1,5 @@
 -- A map in no order, as its pairs in the order of the names.
-use Rattle.cd_cache.proofs.Names.{apart, itself}
+use Rattle.cd_cache.proofs.Names.{itself}
 use Rattle.cd_cache.proofs.Updates.{lookup-insert_other, lookup-insert_same}
 use Rattle.cd_cache.specs.Cache.{CacheMap, name_order, with_entry, without}
 use Rattle.cd_cache.specs.Index.{by_name, found}
@@ -19,10 +19,9 @@ use Rattle.std.specs.List.Sorted.{IsStrictlySortedBy}
 use Rattle.std.specs.List.{AllByRecursion, list_any}
 use Rattle.std.specs.Map.{keys_of, lookup, remove_entry}
 use Rattle.std.specs.Option.{unwrap_or}
-use Rattle.std.specs.Ordering.{eq_by_cmp, is_eq, match_ordering, ordering_reverse}
+use Rattle.std.specs.Ordering.{is_eq, match_ordering, ordering_reverse}
 use Rattle.std.specs.Str.{bytes_eq}
 use Rattle.std.specs.declared.cmp.Ordering.TheVariants.{Equal, Greater, Less}
-use Rattle.std.specs.declared.cmp.Ordering.{Ordering}
 
 -- pairs of a name and an entry
 abbrev Pairs : Type 0

@@ -8,7 +8,7 @@ use Rattle.cd_value.specs.Identifier.{name_of}
 use Rattle.cd_value.specs.declared.data.DataSet.{DataSet}
 use Rattle.cd_value.specs.declared.data.Rate.{Rate}
 use Rattle.cd_value.specs.declared.data.ValueList.{ValueList}
-use Rattle.std.proofs.Common.{Bool, IfSome, IsNone, List, None, Option, Some, ap, cond, false, refl, subst, sym, true, ℕ, ◌∙◌, ◌≡◌, ◌↔◌}
+use Rattle.std.proofs.Common.{Bool, IsNone, List, None, Option, Some, ap, cond, false, refl, subst, sym, true, ℕ, ◌∙◌, ◌≡◌, ◌↔◌}
 use Rattle.std.specs.Option.{option_map}
 
 -- by what stands under the name

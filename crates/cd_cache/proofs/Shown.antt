@@ -11,7 +11,6 @@ use Rattle.std.specs.Map.Iter.{deref}
 use Rattle.std.specs.Ordering.{match_ordering}
 use Rattle.std.specs.Prelude.{◌||◌}
 use Rattle.std.specs.declared.cmp.Ordering.TheVariants.{Equal, Greater, Less}
-use Rattle.std.specs.declared.cmp.Ordering.{Ordering}
 
 -- a name that is put by reference
 pub shown_key : (names : List (Bor (List ℕ))) (name : Bor (List ℕ)) → map (deref {X = List ℕ}) (insert_key (λ x y. name_order x.now y.now) names name) ≡ insert_key name_order (map deref names) name.now

@@ -3,7 +3,7 @@ use Rattle.cd_cache.proofs.ByName.{lookup_by_name, lookup_put, same_pairs, sorte
 use Rattle.cd_cache.specs.Cache.{name_order}
 use Rattle.cd_cache.specs.Index.{by_name, found}
 use Rattle.cd_cache.specs.declared.entry.CacheEntry.{CacheEntry}
-use Rattle.std.proofs.Common.{Bor, Bool, List, None, Option, Some, [], ap, cond, false, map, refl, sym, true, ℕ, ◌∙◌, ◌∷◌, ◌≡◌}
+use Rattle.std.proofs.Common.{Bor, List, None, Option, Some, [], ap, cond, false, map, refl, sym, true, ℕ, ◌∙◌, ◌∷◌, ◌≡◌}
 use Rattle.std.proofs.lemmas.Map.Entries.{none_past_head}
 use Rattle.std.proofs.lemmas.Map.{lookup-none}
 use Rattle.std.specs.BTreeMap.{insert_entry, is_at}
@@ -15,7 +15,6 @@ use Rattle.std.specs.Map.{keys_of, lookup}
 use Rattle.std.specs.Ordering.{match_ordering}
 use Rattle.std.specs.Str.{bytes_eq}
 use Rattle.std.specs.declared.cmp.Ordering.TheVariants.{Equal, Greater, Less}
-use Rattle.std.specs.declared.cmp.Ordering.{Ordering}
 
 abbrev Pairs : Type 0
 Pairs = List (List ℕ × CacheEntry)

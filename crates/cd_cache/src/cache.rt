@@ -121,9 +121,11 @@ impl Cache {
         ensures rates { IfOk result (λ rates. rates ≡ preview_of set.now list.now self.now) }
 
         // What this is of `update`.
-        ensures old { IfOk result (λ rates. IsNone rates ↔ (outcome list.now self.now ≡ Updated.Old)) }
+        ensures old { IfOk result (λ rates.
+            IsNone rates ↔ (outcome list.now self.now ≡ Updated.Old)) }
         ensures stored { IfOk result (λ rates. IfSome rates (λ stored. (now : ℕ) →
-            cached_rates (updated set.now list.now now self.now) (name_of list.now.id) ≡ Some stored)) }
+            cached_rates (updated set.now list.now now self.now) (name_of list.now.id)
+            ≡ Some stored)) }
     {
         let name = list.id.name(alloc)?;
         let Some(before) = self.get(&name) else {

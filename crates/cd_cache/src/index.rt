@@ -39,8 +39,8 @@ impl Index {
 
     /// Puts a pair in.
     pub(crate) fn add(&mut self, at: u128, name: Text) -> Result<(), Memory>
-        ensures ok { OnOk result
-            ((q : ℕ × List ℕ) → has self.new q ≡ cond (is_same (at, name) q) true (has self.old q)) }
+        ensures ok { OnOk result ((q : ℕ × List ℕ) →
+            has self.new q ≡ cond (is_same (at, name) q) true (has self.old q)) }
         ensures err { OnErr result (self.new ≡ self.old) }
     {
         self.pairs.insert((at, name))?;
@@ -49,7 +49,8 @@ impl Index {
 
     /// Takes a pair out.
     pub(crate) fn take_out(&mut self, pair: &(u128, Text))
-        ensures { (q : ℕ × List ℕ) → has self.new q ≡ cond (is_same pair.now q) false (has self.old q) }
+        ensures { (q : ℕ × List ℕ) →
+            has self.new q ≡ cond (is_same pair.now q) false (has self.old q) }
     {
         self.pairs.remove(pair);
     }
@@ -64,7 +65,8 @@ impl Index {
     ) -> Result<(), Memory>
         requires { has self.old (from, name) ≡ true }
         ensures ok { OnOk result ((q : ℕ × List ℕ) → has self.new q
-            ≡ cond (is_same (to, name) q) true (cond (is_same (from, name) q) false (has self.old q))) }
+            ≡ cond (is_same (to, name) q) true
+            (cond (is_same (from, name) q) false (has self.old q))) }
         ensures err { OnErr result (self.new ≡ self.old) }
     {
         if from == to {

@@ -3,7 +3,7 @@ use Rattle.cd_cache.proofs.Pairs.{restored}
 use Rattle.cd_cache.proofs.cache.put_first.Goals as goal
 use Rattle.cd_cache.specs.Index.{expires_at, found, has, is_same}
 use Rattle.cd_cache.specs.declared.entry.CacheEntry.{CacheEntry}
-use Rattle.std.proofs.Common.{Bool, List, None, ap, ap₂, cond, false, sym, true, ℕ, ◌∙◌, ◌≡◌}
+use Rattle.std.proofs.Common.{Bool, List, ap, ap₂, cond, false, sym, true, ℕ, ◌∙◌, ◌≡◌}
 use Rattle.std.proofs.lemmas.Slice.Eq.{bytes_eq-Decides}
 use Rattle.std.specs.Str.{bytes_eq}
 

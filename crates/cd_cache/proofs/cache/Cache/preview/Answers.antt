@@ -1,7 +1,7 @@
 -- What is previewed is what stands under the name afterwards.
 use Rattle.cd_cache.proofs.Previews.{preview_at, stored_preview}
 use Rattle.cd_cache.proofs.cache.Cache.preview.Goals as goal
-use Rattle.cd_cache.specs.Cache.{cached, preview_of}
+use Rattle.cd_cache.specs.Cache.{cached}
 use Rattle.cd_cache.specs.Rates.{rates_against}
 use Rattle.cd_cache.specs.declared.entry.CacheEntry.{CacheEntry}
 use Rattle.cd_value.specs.Identifier.{name_of}

@@ -4,7 +4,7 @@ use Rattle.cd_cache.proofs.Names.{names_of_rows}
 use Rattle.cd_cache.proofs.cache.Cache.rows.Goals as goal
 use Rattle.cd_cache.specs.Index.{by_name}
 use Rattle.cd_cache.specs.Rows.{names_of, row_of, rows_of}
-use Rattle.cd_cache.specs.Cache.{CacheMap, name_order}
+use Rattle.cd_cache.specs.Cache.{name_order}
 use Rattle.cd_cache.specs.declared.entry.CacheEntry.{CacheEntry}
 use Rattle.std.proofs.Common.{Bor, List, [], ap, append-nil, map, rules, subst, sym, ℕ, ◌++◌, ◌∙◌, ◌≡◌}
 use Rattle.std.proofs.lemmas.Map.Iter.{rest_all}

@@ -2,7 +2,7 @@
 use Rattle.cd_cache.proofs.Pairs.{is_pair}
 use Rattle.cd_cache.proofs.index.Index.add.Goals as goal
 use Rattle.cd_cache.specs.Index.{has}
-use Rattle.std.proofs.Common.{Bool, ap, cond, rules, true, ◌∙◌}
+use Rattle.std.proofs.Common.{Bool, ap, cond, true, ◌∙◌}
 
 pub returns-clause-ok : goal.returns-clause-ok
 returns-clause-ok c = λ q.

@@ -3,7 +3,7 @@ use Rattle.cd_cache.proofs.Due.{due_from_late, due_now, sorted_behind}
 use Rattle.cd_cache.proofs.Shown.{has_put, or_false, or_move, shown_key}
 use Rattle.cd_cache.proofs.index.Index.lost.Goals as goal
 use Rattle.cd_cache.specs.Index.{due, has_name, names_in, pair_order}
-use Rattle.std.proofs.Common.{Bool, List, [], ap, arith, length, map, rules, subst, suc, sym, ℕ, ◌+◌, ◌<◌, ◌∙◌, ◌∷◌, ◌≡◌, ◌≤◌}
+use Rattle.std.proofs.Common.{Bool, List, [], ap, arith, length, map, subst, suc, sym, ℕ, ◌<◌, ◌∙◌, ◌∷◌, ◌≡◌, ◌≤◌}
 use Rattle.std.proofs.lemmas.Map.Iter.{rest_more}
 use Rattle.std.specs.List.Sorted.{IsStrictlySortedBy}
 use Rattle.std.specs.Map.Iter.{deref}

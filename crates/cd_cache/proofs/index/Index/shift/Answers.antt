@@ -2,7 +2,7 @@
 use Rattle.cd_cache.proofs.Pairs.{either_way, is_pair, two_pairs}
 use Rattle.cd_cache.proofs.index.Index.shift.Goals as goal
 use Rattle.cd_cache.specs.Index.{has, is_same, pair_order}
-use Rattle.std.proofs.Common.{Bool, List, ap, ap₂, cond, false, rules, sym, true, ℕ, ◌==◌, ◌∙◌, ◌≡◌}
+use Rattle.std.proofs.Common.{Bool, List, ap, ap₂, cond, false, true, ℕ, ◌∙◌, ◌≡◌}
 use Rattle.std.specs.Ordering.{is_eq}
 
 pub returns-clause-ok : goal.returns-clause-ok
