@@ -261,11 +261,30 @@ fn long_lines_are_refused(rt: HostRuntime) -> Result<(), Fail> {
     Ok(())
 }
 
+/// A line of blanks, of as many bytes as a line may have.
+fn blank_line(alloc: Global) -> Result<Vec<u8>, Fail> {
+    let mut line = Vec::new(alloc);
+    line.resize(4_095, b' ')?;
+    line.push(b'\n')?;
+    Ok(line)
+}
+
+/// A LISTVAL, and blank lines up to the limit of the input.
+fn as_much_as_is_taken(alloc: Global) -> Result<Vec<u8>, Fail> {
+    let line = blank_line(alloc)?;
+    let mut bytes = b"LISTVAL\n".to_vec(alloc)?;
+    bytes.resize(4_096, b'\n')?;
+    for _ in 1..INPUT_LIMIT / 4_096 {
+        bytes.extend_from_slice(line.as_slice())?;
+    }
+    Ok(bytes)
+}
+
 #[test]
 fn too_much_input_ends_the_run(rt: HostRuntime) -> Result<(), Fail> {
     let alloc = rt.alloc();
-    let mut bytes = b"LISTVAL\n".to_vec(alloc)?;
-    bytes.resize(INPUT_LIMIT, b'\n')?;
+    let mut bytes = as_much_as_is_taken(alloc)?;
+    assert_eq!(rt; bytes.len(), INPUT_LIMIT);
     let (full, _) = ran(alloc, "--lines", bytes.as_slice(), LinkPlan::new(alloc))?;
     assert!(rt; full.end == End::Done);
     bytes.push(b'\n')?;

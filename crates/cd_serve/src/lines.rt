@@ -13,7 +13,7 @@ use crate::end::end_of;
 use crate::outside::{Around, Outside};
 use crate::program::{INPUT_LIMIT, RanOf};
 use crate::{ShelvedOf, ShelvedProbeOf};
-use cd_cache::Cache;
+use cd_cache::{Cache, HashKey};
 use cd_dialogue::serve_all;
 use cd_globals::Globals;
 use cd_io::{Clock, Dice, Link};
@@ -60,19 +60,20 @@ fn writes_first<P: Plug>(file: &Option<Text>, loaded: &Names, shelf: &[ShelvedOf
 }
 
 /// A daemon before the first line, with these types and settings, and `writer` where the first plug-in is registered
-/// and called with lists.
+/// and called with lists. The names of its cache are hashed with that key.
 fn begin<O: Outside>(
     alloc: Global,
     types: TypesDb,
     globals: Globals,
     outside: O,
     writer: bool,
+    key: HashKey,
 ) -> Daemon<O>
     ensures { seen_of O.outside_pairs O.outside_shelf result ≡ begun_with
         (record { types = types; globals = globals }) writer
         (O.outside_shelf outside) (O.outside_pairs outside) }
 {
-    let cache = Cache::new(alloc, globals.timeout);
+    let cache = Cache::keyed(alloc, globals.timeout, key);
     Daemon {
         types,
         globals,
@@ -84,7 +85,7 @@ fn begin<O: Outside>(
 }
 
 /// Serves the lines of the input with what is in force, and the plug-ins of the shelf that the file loads, where one is
-/// named. The objects come back.
+/// named. The names of the cache are hashed with that key. The objects come back.
 pub(crate) fn serve_lines<C: Clock, D: Dice, L: Link, P: Plug, Q: Drop>(
     alloc: Global,
     file: &Option<Text>,
@@ -92,6 +93,7 @@ pub(crate) fn serve_lines<C: Clock, D: Dice, L: Link, P: Plug, Q: Drop>(
     input: &mut L,
     outside: Around<C, D, P>,
     probes: Vec<ShelvedProbeOf<Q>>,
+    key: HashKey,
 ) -> RanOf<P, Q>
     requires few { length outside.plugs.items ≤ 1 }
     ensures serves { PromisesLines (opening_of found) (loads file.now found.settings.loaded)
@@ -110,7 +112,7 @@ pub(crate) fn serve_lines<C: Clock, D: Dice, L: Link, P: Plug, Q: Drop>(
         ..
     } = found;
     let writer = writes_first(file, &settings.loaded, outside.plugs.as_slice());
-    let mut daemon = begin(alloc, types, settings.globals, outside, writer);
+    let mut daemon = begin(alloc, types, settings.globals, outside, writer, key);
     let served = serve_all(alloc, input, &mut daemon, INPUT_LIMIT);
     let Daemon { outside, given, .. } = daemon;
     RanOf {

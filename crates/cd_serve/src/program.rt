@@ -13,9 +13,10 @@ use crate::lines::serve_lines;
 use crate::outside::Around;
 use crate::started::start;
 use crate::{End, Shelved, ShelvedOf, ShelvedProbe, ShelvedProbeOf};
+use cd_cache::HashKey;
 use cd_command::Mode;
 use cd_history::Givens;
-use cd_io::{Link, World};
+use cd_io::{Dice, Link, World};
 use cd_registry::{Plug, Probe};
 use cd_value::Sequence;
 use std::alloc::Global;
@@ -55,6 +56,11 @@ fn uncalled<P: Drop, Q: Drop>(
         plugs,
         probes,
     }
+}
+
+/// The key of the cache's hashes, drawn from dice of its own: what the daemon's dice give stays as it is.
+fn drawn<D: Dice>(dice: &mut D) -> HashKey {
+    HashKey::new(dice.word(), dice.word())
 }
 
 /// Runs the daemon on one thread, over plug-ins and readers of any type, as `run` does.
@@ -109,7 +115,8 @@ pub fn run_of<W: World, L: Link, P: Plug, Q: Drop>(
                 dice: world.dice(),
                 plugs: shelf,
             };
-            serve_lines(alloc, &command.file, found, input, outside, probes)
+            let key = drawn(&mut world.dice());
+            serve_lines(alloc, &command.file, found, input, outside, probes, key)
         }
     }
 }
