@@ -11,8 +11,8 @@ pub enum Given {
     Word(u64),
     /// What a plug-in answered to a call.
     Answered(Answer),
-    /// What a reader gave.
-    Read(Reading),
+    /// What a reader gave, in a box, so that the other kinds take no room for it.
+    Read(Box<Reading>),
 }
 
 /// What was given, in order.
