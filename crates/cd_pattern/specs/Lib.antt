@@ -1,0 +1,4 @@
+pub mod Compiled
+pub mod Fields
+pub mod Patterns
+pub mod Seen
