@@ -1,0 +1,3 @@
+pub mod Matches
+pub mod Refusals
+pub mod Sought
