@@ -1,0 +1,6 @@
+use Rattle.std.proofs.Common.{◌≡◌, drop}
+use Rattle.cd_chain.specs.Tables.{first_fault, heavy}
+use Rattle.cd_chain.proofs.accept.first_heavy.Given as goal
+
+abbrev pub invariant-loop-n : goal.invariant-loop-n
+invariant-loop-n l = first_fault (heavy l.chains) l.n (drop l.n l.chains) ≡ first_fault (heavy l.chains) 0 l.chains
