@@ -230,7 +230,7 @@ fn renew(
     let renewal = Renewal::of(alloc, set, place, list)?;
     let from = place.expiry(timeout);
     index.shift(alloc, name, from, moment_after(timeout, now, list.interval))?;
-    place.renew(renewal, list, now);
+    place.renew(alloc, renewal, list, now);
     Ok(Updated::Stored)
 }
 

@@ -19,6 +19,3 @@ mod renewal;
 pub use cache::Cache;
 pub use entry::{CacheEntry, Updated};
 pub use key::HashKey;
-
-#[cfg(test)]
-mod tests;

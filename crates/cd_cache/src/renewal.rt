@@ -1,19 +1,22 @@
 //! What a value list brings to the entry of its name.
 ghost use Rattle.cd_cache.specs.Cache.{is_old, renewed};
-ghost use Rattle.cd_cache.specs.Renewal.{IsRenewal, renewed_by};
-ghost use Rattle.std.specs.Prelude.{IfOk, IsTrue, None, Some, ◌≡◌};
+ghost use Rattle.cd_cache.specs.Renewal.{HasRoom, IsRenewal, renewed_by};
+ghost use Rattle.std.specs.Option.{unwrap_or};
+ghost use Rattle.std.specs.Prelude.{IfOk, IsTrue, None, Some, length, ◌≡◌};
 
 use crate::CacheEntry;
 use crate::rates::rates_against;
-use cd_value::{DataSet, Identifier, Memory, Rates, TryCopy, ValueList, Values};
+use cd_value::{DataSet, Identifier, Memory, Rates, Sequence, TryCopy, Value, ValueList, Values};
 use std::alloc::Global;
+use std::mem;
 
 /// What takes memory of the entry that a list makes, got before anything changes.
 #[derive(Drop)]
 pub struct Renewal {
     /// The identifier, where it isn't that of the entry before.
     id: Option<Identifier>,
-    values: Values,
+    /// The values, where the entry before has another number of them.
+    values: Option<Values>,
     rates: Rates,
 }
 
@@ -25,14 +28,19 @@ impl Renewal {
         before: &CacheEntry,
         list: &ValueList,
     ) -> Result<Renewal, Memory>
-        ensures { IfOk result (λ renewal. IsRenewal renewal set.now before.now list.now) }
+        ensures entry { IfOk result (λ renewal. IsRenewal renewal set.now before.now list.now) }
+        ensures room { IfOk result (λ renewal. HasRoom renewal before.now list.now) }
     {
         let id = if is_same(&before.list.id, &list.id) {
             None
         } else {
             Some(list.id.copy(alloc)?)
         };
-        let values = list.values.copy(alloc)?;
+        let values = if before.list.values.len() == list.values.len() {
+            None
+        } else {
+            Some(list.values.copy(alloc)?)
+        };
         let rates = rates_against(alloc, set, Some(before), list)?;
         Ok(Renewal { id, values, rates })
     }
@@ -65,7 +73,8 @@ impl CacheEntry {
     }
 
     /// Takes what a list brings.
-    pub(crate) fn renew(&mut self, renewal: Renewal, list: &ValueList, now: u64)
+    pub(crate) fn renew(&mut self, alloc: Global, renewal: Renewal, list: &ValueList, now: u64)
+        requires { HasRoom renewal self.old list.now }
         ensures { self.new ≡ renewed_by renewal list.now now self.old }
     {
         let Renewal { id, values, rates } = renewal;
@@ -74,7 +83,7 @@ impl CacheEntry {
         }
         self.list.time = list.time;
         self.list.interval = list.interval;
-        self.list.values = values;
+        put_values(alloc, &mut self.list.values, values, &list.values);
         self.rates = rates;
         self.arrival = now;
     }
@@ -89,4 +98,27 @@ fn is_same(id: &Identifier, other: &Identifier) -> bool
         && id.plugin_instance == other.plugin_instance
         && id.type_name == other.type_name
         && id.type_instance == other.type_instance
+}
+
+/// Puts values where others stand: a copy of them, or where there is none, over as many.
+fn put_values(alloc: Global, place: &mut Values, copy: Option<Values>, values: &Values)
+    requires { copy ≡ None → length place.old ≡ length values.now }
+    ensures { place.new ≡ unwrap_or copy values.now }
+{
+    match copy {
+        Some(copy) => *place = copy,
+        None => {
+            let room = mem::replace(place, Sequence::new(alloc)).into_vec();
+            *place = Sequence::from_vec(written(room, values.as_slice()));
+        }
+    }
+}
+
+/// A vector with values written over its own.
+fn written(mut room: Vec<Value>, values: &[Value]) -> Vec<Value>
+    requires { length room.items ≡ length values.now }
+    ensures { result.items ≡ values.now }
+{
+    room.as_mut_slice().copy_from_slice(values);
+    room
 }

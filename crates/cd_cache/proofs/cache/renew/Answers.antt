@@ -9,7 +9,7 @@ use Rattle.std.proofs.Common.{List, Some, ap, ap₂, cond, false, sym, true, ℕ
 pub returns-clause-ok : goal.returns-clause-ok
 returns-clause-ok c =
     c.renew.ensures
-    ∙ c.in_ok-renewal.ensures c.args.now
+    ∙ c.in_ok-renewal.ensures.entry c.args.now
     ∙ sym (ap (λ b. cond b c.args.place.now (renewed c.args.set.now (Some c.args.place.now) c.args.list.now c.args.now)) (sym c.is_as_new_as.ensures ∙ c.if-is_as_new_as.false))
 
 pub returns-clause-moved : goal.returns-clause-moved

@@ -1,0 +1,39 @@
+//! Whether the cache answers as its definitions say: random updates, removals and ticks on a cache and on a plain list
+//! beside it, which have to agree after each. It stands on cd_cache, the values and `rand_xoshiro`; its handle is
+//! standard output. Read first `plain.rt`, the cache as a list that each call walks over. It keeps no state. A change
+//! begins at `walk.rt`, which has what steps there are.
+//!
+//! It takes 10,000 steps from a seed, prints how many there were of each kind, and ends with status 0. At the first
+//! step at which the two differ it prints that step's number and ends with status 1, for want of memory with status 2.
+#![tactic(auto)]
+
+mod draw;
+mod plain;
+mod walk;
+
+use std::io;
+use std::process::ExitCode;
+use walk::{End, walk};
+
+/// Where the steps are drawn from.
+const SEED: u64 = 1;
+/// How many steps are taken.
+const STEPS: u64 = 10_000;
+
+fn main(rt: HostRuntime) -> io::Result<ExitCode> {
+    match walk(rt.alloc(), SEED, STEPS) {
+        Ok(End::Agreed(tally)) => {
+            println!(rt; "{} lists stored, {} old", tally.stored, tally.old)?;
+            println!(rt; "{} names removed, {} lost", tally.removed, tally.lost)?;
+            Ok(ExitCode::SUCCESS)
+        }
+        Ok(End::Differs(number)) => {
+            println!(rt; "step {number} differs")?;
+            Ok(ExitCode::FAILURE)
+        }
+        Err(_) => {
+            println!(rt; "no memory")?;
+            Ok(ExitCode::from(2))
+        }
+    }
+}
