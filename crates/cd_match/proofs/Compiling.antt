@@ -1,13 +1,11 @@
 -- Patterns that are compiled in order, up to the first bad one.
-use Rattle.cd_match.specs.Refusals.{IsCauseAt, IsFirstBad, IsRefused, are_patterns}
+use Rattle.cd_match.specs.Refusals.{IsCauseAt, IsFirstBad, are_patterns}
 use Rattle.cd_match.specs.declared.compiled.BadPattern.TheVariants.{At, Memory}
 use Rattle.cd_match.specs.declared.compiled.BadPattern.{BadPattern}
 use Rattle.cd_pattern.specs.Patterns.{is_pattern}
 use Rattle.cd_pattern.specs.declared.field.Field.{Field}
-use Rattle.std.proofs.Common.{IsTrue, List, ap, ap₂, get_or, length, refl, slice_get, subst, sym, take, ℕ, ◌&&◌, ◌+◌, ◌<◌, ◌∙◌, ◌≡◌}
+use Rattle.std.proofs.Common.{IsTrue, List, ap, ap₂, get_or, length, subst, sym, take, ℕ, ◌&&◌, ◌+◌, ◌<◌, ◌∙◌, ◌≡◌}
 use Rattle.std.proofs.lemmas.List.Folds.{list_all_more}
-use Rattle.std.proofs.lemmas.Option.{slice_get_read}
-use Rattle.std.specs.Prelude.{IsSomeAnd}
 
 module _ (patterns : List (Field × List ℕ)) (i : ℕ) (pair : Field × List ℕ) (inside : i < length patterns)
     (is : pair ≡ get_or patterns i pair) (before : IsTrue (are_patterns (take i patterns))) where
@@ -18,11 +16,8 @@ module _ (patterns : List (Field × List ℕ)) (i : ℕ) (pair : Field × List �
       ∙ ap₂ ◌&&◌ before (ap (λ (p : Field × List ℕ). is_pattern p.1) (sym is) ∙ taken)
 
   -- the one at this place is the first bad one
-  pub first_bad : (number : ℕ) → number ≡ i → (why : BadPattern) → IsCauseAt number pair.1 why → IsFirstBad patterns why
+  pub first_bad : (number : ℕ) → number ≡ i → (why : BadPattern) → IsCauseAt number why → IsFirstBad patterns why
   first_bad number e (At j) cause =
-      let there = cause.0 ∙ e in (
-        subst (λ k. IsTrue (are_patterns (take k patterns))) (sym there) before,
-        subst (λ k. IsSomeAnd (slice_get patterns k) (λ (p : Field × List ℕ). IsRefused p.1)) (sym there)
-            (subst (λ o. IsSomeAnd o (λ (p : Field × List ℕ). IsRefused p.1)) (sym (slice_get_read patterns (length patterns) i pair refl inside is)) cause.1),
-      )
+      let there = cause ∙ e in
+      (subst (λ k. k < length patterns) (sym there) inside, subst (λ k. IsTrue (are_patterns (take k patterns))) (sym there) before)
   first_bad number e Memory cause = tt

@@ -88,7 +88,8 @@ value_holds test sources (Some rates) = chosen_pass test test.sources sources ra
 -- ---- empty_counter
 
 abbrev pub is_counter : DataSource → Bool
-is_counter source = elim source.kind [ kinds.Counter ↦ true | kinds.Gauge ↦ false | kinds.Derive ↦ false | kinds.Absolute ↦ false ]
+is_counter source =
+    elim source.kind [ kinds.Counter ↦ true | kinds.Gauge ↦ false | kinds.Derive ↦ false | kinds.Absolute ↦ false ]
 
 -- a counter is 0; other values don't matter
 abbrev pub is_empty : Value → Bool

@@ -14,7 +14,7 @@ use std::marker::Model;
 /// Why patterns aren't taken.
 #[derive(Clone, Copy, Debug, PartialEq, Eq)]
 pub enum BadPattern {
-    /// The number of the first text that is no pattern, or is nested too deep or too big.
+    /// The number of the first text that is no pattern, is nested too deep, or is too big when it is compiled.
     At(u64),
     /// Memory was lacking.
     Memory,
@@ -121,7 +121,7 @@ fn compiled(alloc: Global, patterns: &[(Field, Text)]) -> Result<Vec<(Field, Pat
 fn compiled_at(alloc: Global, number: usize, text: &Text) -> Result<Pattern, BadPattern>
     ensures ok { IfOk result (λ pattern. pattern ≡ text.now) }
     ensures pattern { IfOk result (λ _. IsTrue (is_pattern text.now)) }
-    ensures cause { IfErr result (IsCauseAt number text.now) }
+    ensures cause { IfErr result (IsCauseAt number) }
 {
     match Pattern::of(alloc, text.as_str()) {
         Ok(pattern) => Ok(pattern),

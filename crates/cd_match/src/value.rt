@@ -38,7 +38,8 @@ impl ValueMatch {
 
     /// Whether enough of the sources of the first numbers pass.
     fn enough_numbers(&self, count: usize, rates: &[Rate]) -> bool
-        ensures { result ≡ enough self.now.any (passes_at self.now rates.now) (range_with_len 0 count) }
+        ensures { result
+            ≡ enough self.now.any (passes_at self.now rates.now) (range_with_len 0 count) }
     {
         if self.any {
             self.any_number(count, rates)
@@ -61,7 +62,8 @@ impl ValueMatch {
 
     /// Whether enough of the sources that are named pass.
     fn enough_names(&self, sources: &[DataSource], rates: &[Rate]) -> bool
-        ensures { result ≡ enough self.now.any (passes_named self.now sources.now rates.now) self.now.sources }
+        ensures { result ≡ enough self.now.any
+            (passes_named self.now sources.now rates.now) self.now.sources }
     {
         if self.any {
             self.any_name(sources, rates)
@@ -119,7 +121,10 @@ impl ValueMatch {
 fn is_known(rate: &Rate) -> bool
     ensures { result ≡ rates.is_known rate.now }
 {
-    rate.millionths().is_some()
+    match rate {
+        Rate::Known { num: _, den } => *den != 0,
+        Rate::Unknown => false,
+    }
 }
 
 fn reaches_min(rate: &Rate, min: Option<i128>) -> bool

@@ -42,8 +42,8 @@ pub fn all_hold(
     rates: Option<&Rates>,
     now: u64,
 ) -> Result<bool, Memory>
-    ensures holds { IfOk result (λ found. found ≡
-        list_all (λ test. match_holds test set.now (option_copied rates.entry) now list.now) matches.old) }
+    ensures holds { IfOk result (λ found. found ≡ list_all
+        (λ test. match_holds test set.now (option_copied rates.entry) now list.now) matches.old) }
     ensures same { matches.new ≡ matches.old }
 {
     for test in matches.iter_mut() {

@@ -1,9 +1,5 @@
 -- Which texts are patterns, and where a pattern is found: functions of its text alone.
-use Rattle.cd_pattern.specs.declared.pattern.PatternFault.TheVariants.{BadPattern, Memory}
-use Rattle.cd_pattern.specs.declared.pattern.PatternFault.{PatternFault}
 use Rattle.regex.specs.Patterns.{Re, default_config, find_str, span}
-use Rattle.regex.specs.declared.error.Error.TheVariants.{CompiledTooBig, Internal, OutOfMemory, Syntax}
-use Rattle.regex.specs.declared.error.Error.{Error}
 use Rattle.regex_syntax.specs.Brackets.{Nested}
 use Rattle.regex_syntax.specs.Grammar.{Names, read}
 use Rattle.std.specs.Option.{option_map_or}
@@ -37,16 +33,3 @@ pub record IsPlaceIn (text : List ℕ) (place : ℕ × ℕ) : Type 0 where
   pub inside : place.1 ≤ length text
   pub begins : IsCharBoundary text place.0
   pub ends : IsCharBoundary text place.1
-
--- an error, other than want of memory, with which `regex` refuses a text: it is one of syntax exactly where the text is
--- no pattern, else the compiled pattern is too big, of which the text tells nothing
-abbrev pub Refuses : List ℕ → Error → Type 0
-Refuses text (Syntax error) = is_pattern text ≡ false
-Refuses text CompiledTooBig = is_pattern text ≡ true
-Refuses text Internal = ⊥
-Refuses text OutOfMemory = ⊥
-
--- a text is a bad pattern where `regex` refuses it so; want of memory may always come
-abbrev pub IsCause : List ℕ → PatternFault → Type 0
-IsCause text BadPattern = (error : Error) × Refuses text error
-IsCause text Memory = Unit {0}

@@ -1,5 +1,5 @@
 //! Patterns that are looked for in texts.
-ghost use Rattle.cd_pattern.specs.Patterns.{IsCause, IsPlaceIn, first_found, is_found_in, is_pattern};
+ghost use Rattle.cd_pattern.specs.Patterns.{IsPlaceIn, first_found, is_found_in, is_pattern};
 ghost use Rattle.std.specs.Prelude.{IfErr, IfOk, IfSome, IsTrue, ◌≡◌};
 
 use crate::seen::{Seen, note, recall};
@@ -41,13 +41,12 @@ impl Model for Pattern {
 }
 
 impl Pattern {
-    /// Compiles a text, which comes back where it is refused: as BadPattern only where `regex` refuses it for another
-    /// cause than memory. A text that is no pattern is never taken.
+    /// Compiles a text, which comes back where it is refused. A text that is no pattern is never taken; which patterns
+    /// are too big when they are compiled is `regex`'s own word, and no clause says it.
     pub fn new(alloc: Global, text: Text) -> Result<Pattern, Refused<Text, PatternFault>>
         ensures ok { IfOk result (λ pattern. pattern ≡ text) }
         ensures pattern { IfOk result (λ _. IsTrue (is_pattern text)) }
         ensures back { IfErr result (λ refused. refused.value ≡ text) }
-        ensures cause { IfErr result (λ refused. IsCause text refused.why) }
     {
         match Pattern::of(alloc, text.as_str()) {
             Ok(pattern) => Ok(pattern),
@@ -59,7 +58,6 @@ impl Pattern {
     pub fn of(alloc: Global, text: &str) -> Result<Pattern, PatternFault>
         ensures ok { IfOk result (λ pattern. pattern ≡ text.now) }
         ensures pattern { IfOk result (λ _. IsTrue (is_pattern text.now)) }
-        ensures cause { IfErr result (IsCause text.now) }
     {
         match Regex::new(alloc, text) {
             Ok(compiled) => Ok(Pattern {

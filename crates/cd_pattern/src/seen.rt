@@ -7,7 +7,7 @@ use cd_value::{Memory, Text};
 use std::alloc::Global;
 
 /// The number of slots of a pattern.
-const SLOTS: usize = 256;
+const SLOTS: usize = 2048;
 
 /// A text that a pattern was looked for in, and whether it was found there.
 #[derive(Drop)]

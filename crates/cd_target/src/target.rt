@@ -1,5 +1,5 @@
 //! The targets.
-ghost use Rattle.cd_pattern.specs.Patterns.{IsCause, IsPlaceIn, is_pattern};
+ghost use Rattle.cd_pattern.specs.Patterns.{IsPlaceIn, is_pattern};
 ghost use Rattle.cd_target.specs.Targets.{replaced_once};
 ghost use Rattle.std.specs.Prelude.{IfErr, IfOk, IsTrue, drop, take, ◌++◌, ◌≡◌};
 
@@ -48,7 +48,6 @@ impl Replacing {
             option ≡ record { field = field; pattern = pattern; with = with }) }
         ensures pattern { IfOk result (λ _. IsTrue (is_pattern pattern)) }
         ensures back { IfErr result (λ refused. refused.value ≡ pattern) }
-        ensures cause { IfErr result (λ refused. IsCause pattern refused.why) }
     {
         match Pattern::new(alloc, pattern) {
             Ok(pattern) => Ok(Replacing {
