@@ -1,18 +1,18 @@
 -- An accepted table has no chain that reaches itself.
 use Rattle.std.proofs.Common.{◌≡◌, ℕ, ◌<◌, not, List, length, get_or, Option, None, Some, IsTrue, is_some, refl, sym, ap, ◌∙◌}
 use Rattle.std.proofs.lemmas.Option.{slice_get_read}
-use Rattle.std.specs.Option.{option_map}
+use Rattle.std.specs.Option.{option_map, option_or}
 use Rattle.cd_value.specs.declared.data.ValueList.{ValueList}
 use Rattle.cd_chain.specs.declared.data.Verdict.TheVariants.{Continue}
 use Rattle.cd_chain.specs.Chains.{ended, out, run_chain, run_numbered, step_or}
 use Rattle.cd_match.specs.Matches.{Scene}
 use Rattle.cd_chain.specs.declared.data.Chain.{Chain}
 use Rattle.cd_chain.specs.declared.data.ChainFault.{ChainFault}
-use Rattle.cd_chain.specs.Tables.{empty_rule, fault_of, first_fault, is_accepted, jump_table, looped, or_else, repeated, unknown}
+use Rattle.cd_chain.specs.Tables.{empty_rule, fault_of, first_fault, is_accepted, jump_table, looped, repeated, unknown}
 use Rattle.cd_walks.specs.Walks.{cycle, IsFree}
 use Rattle.cd_walks.proofs.Loops.{free}
 
-both_none : (a b : Option ChainFault) → or_else a b ≡ None → (a ≡ None) × (b ≡ None)
+both_none : (a b : Option ChainFault) → option_or a b ≡ None → (a ≡ None) × (b ≡ None)
 both_none None b e = (refl, e)
 both_none (Some x) b e = absurd (cc)
 

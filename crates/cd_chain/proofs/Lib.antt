@@ -7,4 +7,6 @@ pub mod Jumping
 pub mod Steps
 pub mod Places
 pub mod Stepping
-pub mod Laws
+pub mod OfAccepted
+pub mod Cycles
+mod WorkedChains

@@ -1,11 +1,11 @@
 -- The next place of a chain under way: what is left from there is what was left.
-use Rattle.std.proofs.Common.{◌≡◌, ℕ, zero, suc, ◌+◌, ◌<◌, ◌≤◌, Bool, true, false, cond, not, ◌&&◌, ◌==◌, nat_lt, List, [], ◌∷◌, ◌++◌, length, drop, length-drop, ◌-◌, Option, None, Some, MatchOption, get_or, set, ◌⊎◌, inl, inr, refl, sym, ap, ◌∙◌, subst, arith}
+use Rattle.std.proofs.Common.{◌≡◌, ℕ, zero, suc, ◌+◌, ◌<◌, ◌≤◌, Bool, true, false, cond, not, ◌&&◌, ◌==◌, nat_lt, List, [], ◌∷◌, length, drop, length-drop, ◌-◌, Option, None, Some, MatchOption, get_or, set, ◌⊎◌, inl, inr, refl, sym, ap, ◌∙◌, subst, arith}
 use Rattle.std.specs.Prelude.{nat_le, slice_get}
 use Rattle.std.specs.List.{flat_map, sum_by}
 use Rattle.std.proofs.lemmas.Bool.{le-leb, leb-false, leb-true, ltb-false, ltb-true}
 use Rattle.std.proofs.lemmas.List.{append-nil, drop_all, drop_more, set-get_or}
 use Rattle.std.proofs.lemmas.Option.{slice_get_cases, slice_get_past}
-use Rattle.std.proofs.lemmas.List.Sums.{sum_by-append, sum_by-cons}
+use Rattle.std.proofs.lemmas.List.Sums.{sum_by-append}
 use Rattle.cd_value.specs.declared.data.ValueList.{ValueList}
 use Rattle.cd_chain.specs.declared.data.Chain.{Chain}
 use Rattle.cd_chain.specs.declared.data.Rule.{Rule}
@@ -14,7 +14,6 @@ use Rattle.cd_chain.specs.declared.data.Verdict.{Verdict}
 use Rattle.cd_chain.specs.declared.data.Verdict.TheVariants.{Continue, Return, Stop}
 use Rattle.cd_chain.specs.declared.frame.Frame.{Frame}
 use Rattle.cd_match.specs.Matches.{Scene, all_hold}
-use Rattle.cd_match.specs.declared.data.Match.{Match}
 use Rattle.cd_target.specs.declared.target.Target.{Target}
 use Rattle.cd_chain.specs.Chains.{and_then, chain_at, ended, number_of, out, run_chain, run_numbered, run_rules, run_targets, step_or, target_weight, weight}
 use Rattle.cd_chain.specs.Tables.{jump_table}

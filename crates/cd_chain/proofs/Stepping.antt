@@ -1,5 +1,5 @@
 -- What a step tells, carried to what stood before it and to the table as it was.
-use Rattle.std.proofs.Common.{◌≡◌, ℕ, ◌+◌, ◌<◌, ◌≤◌, List, [], ◌∷◌, ◌++◌, map, Option, None, Some, Result, Ok, Err, IfOk, MatchOption, refl, sym, ap, ◌∙◌, subst, arith}
+use Rattle.std.proofs.Common.{◌≡◌, ℕ, ◌≤◌, List, [], ◌∷◌, ◌++◌, map, Option, None, Some, Result, Ok, Err, sym, ap, ◌∙◌, subst, arith}
 use Rattle.cd_value.specs.declared.data.ValueList.{ValueList}
 use Rattle.cd_value.specs.declared.memory.Memory.{Memory}
 use Rattle.cd_chain.specs.declared.data.Action.{Action}
@@ -11,7 +11,7 @@ use Rattle.cd_chain.specs.declared.evaluate.Evaluation.{Evaluation}
 use Rattle.cd_chain.specs.declared.frame.Frame.{Frame}
 use Rattle.cd_match.specs.Matches.{Scene}
 use Rattle.cd_chain.specs.Chains.{ended, out, run_numbered, weight}
-use Rattle.cd_chain.specs.Frames.{Goes, IsNearer, Told, after_actions, back, meaning, meaning_at, rest_of, rest_weight, resume, steps_at, steps_left, steps_to_go}
+use Rattle.cd_chain.specs.Frames.{Goes, IsNearer, Told, after_actions, back, meaning, rest_of, resume, steps_at, steps_to_go}
 use Rattle.cd_chain.proofs.Places.{starts}
 use Rattle.cd_chain.proofs.Steps.{on, steps}
 

@@ -32,7 +32,8 @@ chain_at table (Some number) = slice_get table number
 abbrev pub chain_named : List ℕ → List Chain → Option Chain
 chain_named name table = chain_at table (number_of name table)
 
-abbrev pub step_or : {X : Type 0} → ((List ℕ → X) → Chain → X) → X → (List ℕ → X) → Option Chain → X
+abbrev pub step_or : {X : Type 0} →
+    ((List ℕ → X) → Chain → X) → X → (List ℕ → X) → Option Chain → X
 step_or step none deeper None = none
 step_or step none deeper (Some chain) = step deeper chain
 
@@ -85,10 +86,14 @@ abbrev pub run_targets : Scene → (List ℕ → ValueList → Run) → List Tar
 run_targets scene jump [] list = ended Continue list
 run_targets scene jump (targets.Return ∷ more) list = ended Return list
 run_targets scene jump (targets.Stop ∷ more) list = ended Stop list
-run_targets scene jump (targets.Jump name ∷ more) list = and_then (returned (jump name list)) (run_targets scene jump more)
-run_targets scene jump (targets.Write names ∷ more) list = acting (actions.Write names list) (run_targets scene jump more list)
-run_targets scene jump (targets.Set options ∷ more) list = run_targets scene jump more (rewritten (targets.Set options) list)
-run_targets scene jump (targets.Replace options ∷ more) list = run_targets scene jump more (rewritten (targets.Replace options) list)
+run_targets scene jump (targets.Jump name ∷ more) list =
+    and_then (returned (jump name list)) (run_targets scene jump more)
+run_targets scene jump (targets.Write names ∷ more) list =
+    acting (actions.Write names list) (run_targets scene jump more list)
+run_targets scene jump (targets.Set options ∷ more) list =
+    run_targets scene jump more (rewritten (targets.Set options) list)
+run_targets scene jump (targets.Replace options ∷ more) list =
+    run_targets scene jump more (rewritten (targets.Replace options) list)
 run_targets scene jump (targets.Notification message severity ∷ more) list =
     acting (actions.Notify (notice scene message severity list)) (run_targets scene jump more list)
 
@@ -123,4 +128,5 @@ weight table name = through chain_weight 0 table name
 
 -- what the chain of a number does
 abbrev pub run_numbered : Scene → List Chain → ℕ → ValueList → Run
-run_numbered scene table number list = step_or (run_chain scene) (ended Continue) (out scene table) (slice_get table number) list
+run_numbered scene table number list =
+    step_or (run_chain scene) (ended Continue) (out scene table) (slice_get table number) list

@@ -1,10 +1,11 @@
 -- Which tables of chains are accepted, and why another is refused.
 use Rattle.std.specs.Prelude.{ℕ, ◌+◌, Bool, ◌==◌, not, nat_lt, is_some, if◌then◌else◌, List, [], ◌∷◌, map, length, take, slice_get, position, Option, None, Some}
 use Rattle.std.specs.List.{find, filter_map}
-use Rattle.std.specs.Option.{option_map}
+use Rattle.std.specs.Option.{option_map, option_or}
 use Rattle.cd_chain.specs.declared.data.Chain.{Chain}
 use Rattle.cd_chain.specs.declared.data.ChainFault.{ChainFault}
 use Rattle.cd_chain.specs.declared.data.ChainFault.TheVariants as faults
+use Rattle.cd_chain.specs.declared.weigh.TheConstants.{GREATEST_WEIGHT}
 use Rattle.cd_target.specs.declared.target.Target.{Target}
 use Rattle.cd_target.specs.declared.target.Target.TheVariants as targets
 use Rattle.cd_chain.specs.Chains.{number_of, targets_of, weight}
@@ -28,15 +29,10 @@ jump_table table = map (jump_numbers table) table
 
 -- ---- faults
 
--- the first of two
-abbrev pub or_else : Option ChainFault → Option ChainFault → Option ChainFault
-or_else None next = next
-or_else (Some fault) next = Some fault
-
 -- the first fault of numbered things
 abbrev pub first_fault : {A : Type 0} → (ℕ → A → Option ChainFault) → ℕ → List A → Option ChainFault
 first_fault fault n [] = None
-first_fault fault n (x ∷ xs) = or_else (fault n x) (first_fault fault (n + 1) xs)
+first_fault fault n (x ∷ xs) = option_or (fault n x) (first_fault fault (n + 1) xs)
 
 -- an earlier chain has the name
 abbrev pub repeated : List Chain → ℕ → Chain → Option ChainFault
@@ -48,7 +44,9 @@ empty_rule n chain = option_map (λ r. faults.EmptyRule n r) (position (λ rule.
 
 -- a jump goes to no chain
 abbrev pub unknown : List Chain → ℕ → Chain → Option ChainFault
-unknown table n chain = option_map (λ name. faults.UnknownChain n name) (find (λ name. not (is_some (number_of name table))) (jumps_of chain))
+unknown table n chain =
+    option_map (λ name. faults.UnknownChain n name)
+    (find (λ name. not (is_some (number_of name table))) (jumps_of chain))
 
 abbrev pub name_at : List Chain → ℕ → List ℕ
 name_at table n = elim (slice_get table n) [ None ↦ [] | Some chain ↦ chain.name ]
@@ -59,15 +57,15 @@ looped table = option_map (λ walk. faults.JumpCycle (map (name_at table) walk))
 
 -- a chain weighs more than it may
 abbrev pub heavy : List Chain → ℕ → Chain → Option ChainFault
-heavy table n chain = if nat_lt 4096 (weight table chain.name) then Some (faults.TooHeavy n) else None
+heavy table n chain = if nat_lt GREATEST_WEIGHT (weight table chain.name) then Some (faults.TooHeavy n) else None
 
 -- why a table is refused
 abbrev pub fault_of : List Chain → Option ChainFault
 fault_of table =
-    or_else (first_fault (repeated table) 0 table)
-    (or_else (first_fault empty_rule 0 table)
-    (or_else (first_fault (unknown table) 0 table)
-    (or_else (looped table)
+    option_or (first_fault (repeated table) 0 table)
+    (option_or (first_fault empty_rule 0 table)
+    (option_or (first_fault (unknown table) 0 table)
+    (option_or (looped table)
     (first_fault (heavy table) 0 table))))
 
 abbrev pub is_accepted : List Chain → Bool

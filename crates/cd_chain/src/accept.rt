@@ -73,7 +73,9 @@ fn is_unknown(chains: &[Chain], name: &Text) -> bool
 
 /// The first name that no chain has.
 fn first_unknown_name<'a>(chains: &[Chain], names: &[&'a Text]) -> Option<&'a Text>
-    ensures { option_copied result ≡ find (λ name. not (is_some (number_of name chains.now))) (map (λ name. name.now) names.now) }
+    ensures { option_copied result
+        ≡ find (λ name. not (is_some (number_of name chains.now)))
+        (map (λ name. name.now) names.now) }
 {
     for name in names {
         if is_unknown(chains, name) {
@@ -154,7 +156,8 @@ fn looped_of(
 
 /// Whether a chain weighs more than it may.
 fn heavy_of(chains: &[Chain], weights: &[u64], n: usize, chain: &Chain) -> Option<ChainFault>
-    requires { (name : List ℕ) → looked_up chains.now weights.now name ≡ min 4097 (weight chains.now name) }
+    requires { (name : List ℕ) →
+        looked_up chains.now weights.now name ≡ min 4097 (weight chains.now name) }
     ensures { result ≡ heavy chains.now n chain.now }
 {
     if looked_up(chains, weights, &chain.name) > GREATEST_WEIGHT {

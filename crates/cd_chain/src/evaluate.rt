@@ -134,7 +134,7 @@ pub fn run_on<V: RateView>(
     alloc: Global,
     chains: &mut [Chain],
     chain: usize,
-    list: &ValueList,
+    list: ValueList,
     set: &DataSet,
     view: &V,
     now: u64,
@@ -142,13 +142,13 @@ pub fn run_on<V: RateView>(
     requires { IsFree (jump_table chains.old) }
     ensures run { IfOk result (λ run. let scene : Scene
         = record { set = set.now; rates = V.rates_at view.now; now = now } in
-        run ≡ run_numbered scene chains.old chain list.now) }
+        run ≡ run_numbered scene chains.old chain list) }
     ensures same { chains.new ≡ chains.old }
 {
     let mut frames = Vec::new(alloc);
     frames.push(Frame::of(chain))?;
     let mut evaluation = Evaluation {
-        list: list.copy(alloc)?,
+        list,
         actions: Actions::new(alloc),
         frames,
     };

@@ -26,7 +26,8 @@ pub fn number_of(chains: &[Chain], name: &Text) -> Option<usize>
 
 /// Puts the jump of a target behind others, where it is one.
 fn push_jump<'a>(names: &mut Vec<&'a Text>, target: &'a Target) -> Result<(), Memory>
-    ensures { OnOk result (map (λ name. name.now) names.new.items ≡ map (λ name. name.now) names.old.items ++ filter_map jump_of (target.now ∷ [])) }
+    ensures { OnOk result (map (λ name. name.now) names.new.items
+        ≡ map (λ name. name.now) names.old.items ++ filter_map jump_of (target.now ∷ [])) }
 {
     match target {
         Target::Jump(name) => {
@@ -39,7 +40,8 @@ fn push_jump<'a>(names: &mut Vec<&'a Text>, target: &'a Target) -> Result<(), Me
 
 /// Puts the jumps of targets behind others.
 fn push_jumps<'a>(names: &mut Vec<&'a Text>, targets: &'a [Target]) -> Result<(), Memory>
-    ensures { OnOk result (map (λ name. name.now) names.new.items ≡ map (λ name. name.now) names.old.items ++ filter_map jump_of targets.now) }
+    ensures { OnOk result (map (λ name. name.now) names.new.items
+        ≡ map (λ name. name.now) names.old.items ++ filter_map jump_of targets.now) }
 {
     for target in targets {
         push_jump(names, target)?;
@@ -61,7 +63,8 @@ pub fn jumps_of(alloc: Global, chain: &Chain) -> Result<Vec<&Text>, Memory>
 
 /// Puts the number of the chain of a name behind others, where there is one.
 fn push_number(numbers: &mut Vec<usize>, chains: &[Chain], name: &Text) -> Result<(), Memory>
-    ensures { OnOk result (numbers.new.items ≡ numbers.old.items ++ filter_map (λ name. number_of name chains.now) (name.now ∷ [])) }
+    ensures { OnOk result (numbers.new.items ≡ numbers.old.items
+        ++ filter_map (λ name. number_of name chains.now) (name.now ∷ [])) }
 {
     match number_of(chains, name) {
         Some(number) => {
@@ -74,7 +77,8 @@ fn push_number(numbers: &mut Vec<usize>, chains: &[Chain], name: &Text) -> Resul
 
 /// The numbers of the chains of names, without those that have none.
 fn numbers_of(alloc: Global, chains: &[Chain], names: &[&Text]) -> Result<Vec<usize>, Memory>
-    ensures { IfOk result (λ numbers. numbers.items ≡ filter_map (λ name. number_of name chains.now) (map (λ name. name.now) names.now)) }
+    ensures { IfOk result (λ numbers. numbers.items
+        ≡ filter_map (λ name. number_of name chains.now) (map (λ name. name.now) names.now)) }
 {
     let mut numbers = Vec::new(alloc);
     for name in names {

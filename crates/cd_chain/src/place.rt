@@ -123,6 +123,9 @@ fn next_in<V: RateView>(
     if has_target(chain, frame) {
         return Ok(Some(frame));
     }
+    if frame.begun >= chain.rules.len() {
+        return Ok(at_defaults(chain, frame));
+    }
     let name = list.id.name(alloc)?;
     let rates = view.rates(&name);
     match next_rule(alloc, chain, frame.begun, list, set, rates, now)? {

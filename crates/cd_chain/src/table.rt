@@ -1,16 +1,16 @@
 //! Tables of chains that were accepted.
 ghost use Rattle.cd_chain.specs.Chains.{number_of, run_numbered};
-ghost use Rattle.cd_chain.specs.Refusals.{IsFaultOf};
+ghost use Rattle.cd_chain.specs.Refusals.{IsFaultOf, TellsLeastWalk};
 ghost use Rattle.cd_chain.specs.Tables.{fault_of};
 ghost use Rattle.cd_match.specs.Matches.{Scene};
 ghost use Rattle.cd_target.specs.Targets.{Keeps};
-ghost use Rattle.std.specs.Prelude.{◌≡◌, ◌==◌, ◌<◌, length, IfOk, IfErr, None};
+ghost use Rattle.std.specs.Prelude.{◌≡◌, ◌==◌, ◌<◌, length, IfOk, IfErr, IfSome, None};
 
 use crate::accept::fault_of;
 use crate::evaluate::run_on;
 use crate::jumps::position_of;
 use crate::{Chain, ChainFault, Chains, Run};
-use cd_value::{DataSet, Memory, RateView, Refused, ValueList};
+use cd_value::{DataSet, Memory, RateView, Refused, TryCopy, ValueList};
 use std::alloc::Global;
 use std::marker::Model;
 
@@ -41,6 +41,9 @@ impl ChainTable {
         ensures accepted { IfOk result (λ table. fault_of table ≡ None) }
         ensures back { IfErr result (λ refused. refused.value ≡ chains) }
         ensures cause { IfErr result (λ refused. IsFaultOf chains refused.why) }
+
+        // A cycle is told by the least walk.
+        ensures least { IfErr result (λ refused. TellsLeastWalk chains refused.why) }
     {
         match fault_of(alloc, chains.as_slice()) {
             Ok(None) => Ok(ChainTable {
@@ -70,7 +73,8 @@ impl ChainTable {
 
     /// The number of the chain of a name.
     pub fn find(&self, name: &str) -> Option<u64>
-        ensures { result ≡ number_of name.now self.now }
+        ensures number { result ≡ number_of name.now self.now }
+        ensures inside { IfSome result (λ number. number < length self.now) }
     {
         match position_of(self.chains.as_slice(), name) {
             Some(number) => Some(number as u64),
@@ -97,6 +101,27 @@ impl ChainTable {
 
         // A list that fitted its data set still does.
         ensures keeps { IfOk result (λ run. Keeps list.now run.list) }
+        ensures same { self.new ≡ self.old }
+    {
+        let list = list.copy(alloc)?;
+        self.run_owned(alloc, chain, list, set, view, now)
+    }
+
+    /// What `run` does with a list that isn't needed any more, which is not copied.
+    pub fn run_owned<V: RateView>(
+        &mut self,
+        alloc: Global,
+        chain: u64,
+        list: ValueList,
+        set: &DataSet,
+        view: &V,
+        now: u64,
+    ) -> Result<Run, Memory>
+        requires { chain < length self.old }
+        ensures run { IfOk result (λ run. let scene : Scene
+            = record { set = set.now; rates = V.rates_at view.now; now = now } in
+            run ≡ run_numbered scene self.old chain list) }
+        ensures keeps { IfOk result (λ run. Keeps list run.list) }
         ensures same { self.new ≡ self.old }
     {
         run_on(

@@ -67,7 +67,8 @@ fn target_count(chain: &Chain) -> u64
 /// A weight with those of the chains of numbers added, at most so much.
 fn with_jumps(weight: u64, numbers: &[usize], weights: &[u64]) -> u64
     requires { weight ≤ 4097 }
-    ensures { result ≡ min 4097 (weight + sum_by (λ n. slice_index_or weights.now n 0) numbers.now) }
+    ensures { result
+        ≡ min 4097 (weight + sum_by (λ n. slice_index_or weights.now n 0) numbers.now) }
 {
     let mut sum = weight;
     for number in numbers {
@@ -94,8 +95,8 @@ fn deeper(
     weights: &[u64],
 ) -> Result<Vec<u64>, Memory>
     requires { items_of jumps.now ≡ jump_table chains.now }
-    ensures { IfOk result (λ new. new.items
-        ≡ map (λ chain. min 4097 (chain_weight (looked_up chains.now weights.now) chain)) chains.now) }
+    ensures { IfOk result (λ new. new.items ≡ map
+        (λ chain. min 4097 (chain_weight (looked_up chains.now weights.now) chain)) chains.now) }
 {
     let mut new = Vec::with_capacity(alloc, chains.len())?;
     for (number, chain) in chains.iter().enumerate() {

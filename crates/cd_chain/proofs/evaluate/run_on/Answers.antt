@@ -14,9 +14,9 @@ loop-evaluation-init g c =
     let scene : Scene = record { set = c.args.set.now; rates = g.V.RateView.rates_at c.args.view.now; now = c.args.now } in
     record {
       same = refl;
-      means = at_start scene c.args.chains.now c.args.chain c.of.result c.push.new.self.items _ _ c.args.list.now c.of.ensures
+      means = at_start scene c.args.chains.now c.args.chain c.of.result c.push.new.self.items _ _ c.args.list c.of.ensures
           (c.in_ok-push.ensures.items ∙ ap (λ (frames : List Frame). frames ++ c.of.result ∷ []) c.new-frames.ensures.items)
-          c.new.ensures c.in_ok-copy.ensures;
+          c.new.ensures refl;
     }
 
 pub step-requires : goal.step-requires
@@ -31,7 +31,7 @@ loop-evaluation-preserved g c =
     let before = c.loop-evaluation.invariant in
     record {
       same = c.step.ensures.same ∙ before.same;
-      means = sym (rw c.in_default.is at (told_in_loop scene table c.loop-evaluation.chains (run_numbered scene table c.args.chain c.args.list.now) c.loop-evaluation.evaluation c.step.new.self (Ok c.in_ok-end.end) before.same before.means c.in_ok-end.ensures.means));
+      means = sym (rw c.in_default.is at (told_in_loop scene table c.loop-evaluation.chains (run_numbered scene table c.args.chain c.args.list) c.loop-evaluation.evaluation c.step.new.self (Ok c.in_ok-end.end) before.same before.means c.in_ok-end.ensures.means));
     }
 
 pub loop-evaluation-smaller : goal.loop-evaluation-smaller
@@ -43,4 +43,4 @@ returns-in-Some-clause-run g c =
     let scene : Scene = record { set = c.args.set.now; rates = g.V.RateView.rates_at c.args.view.now; now = c.args.now } in
     let table = c.args.chains.now in
     let before = c.loop-evaluation.invariant in
-    sym (rw c.in-Some.is at (told_in_loop scene table c.loop-evaluation.chains (run_numbered scene table c.args.chain c.args.list.now) c.loop-evaluation.evaluation c.step.new.self (Ok c.in_ok-end.end) before.same before.means c.in_ok-end.ensures.means))
+    sym (rw c.in-Some.is at (told_in_loop scene table c.loop-evaluation.chains (run_numbered scene table c.args.chain c.args.list) c.loop-evaluation.evaluation c.step.new.self (Ok c.in_ok-end.end) before.same before.means c.in_ok-end.ensures.means))

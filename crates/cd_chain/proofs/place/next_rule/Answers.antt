@@ -1,4 +1,4 @@
-use Rattle.std.proofs.Common.{◌∙◌, ◌<◌, ◌≤◌, Bool, List, Option, ℕ, false, true, ap, arith, drop, get_or, length}
+use Rattle.std.proofs.Common.{◌∙◌, Bool, false, true, ap, arith, drop, get_or}
 use Rattle.cd_chain.proofs.Places.{none_left, went_on}
 use Rattle.cd_chain.proofs.place.next_rule.Goals as goal
 use Rattle.cd_chain.specs.Frames.{behind_first, meets, runs}

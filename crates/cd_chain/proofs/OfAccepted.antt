@@ -10,7 +10,7 @@ use Rattle.cd_target.specs.declared.target.Target.TheVariants as targets
 use Rattle.cd_chain.specs.declared.data.Verdict.{Verdict}
 use Rattle.cd_chain.specs.declared.data.Verdict.TheVariants.{Continue, Return, Stop}
 use Rattle.cd_chain.specs.Chains.{and_then, at_depth, chain_named, ended, out, returned, run_chain, run_numbered, run_rules, run_targets, step_or, through}
-use Rattle.cd_chain.specs.Tables.{fault_of, jump_table}
+use Rattle.cd_chain.specs.Tables.{fault_of}
 use Rattle.cd_match.specs.Matches.{Scene, all_hold}
 use Rattle.cd_target.specs.Targets.{Keeps, rewritten}
 use Rattle.cd_target.proofs.Identifiers.{keeps_after}

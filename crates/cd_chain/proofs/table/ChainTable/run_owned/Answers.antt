@@ -1,6 +1,6 @@
 use Rattle.cd_chain.proofs.Accepting.{accepted, no_loop}
-use Rattle.cd_chain.proofs.Laws.{numbered_keeps}
-use Rattle.cd_chain.proofs.table.ChainTable.run.Goals as goal
+use Rattle.cd_chain.proofs.OfAccepted.{numbered_keeps}
+use Rattle.cd_chain.proofs.table.ChainTable.run_owned.Goals as goal
 use Rattle.cd_chain.specs.Chains.{run_numbered}
 use Rattle.cd_chain.specs.Tables.{jump_table}
 use Rattle.cd_chain.specs.declared.data.Chain.{Chain}
@@ -25,5 +25,5 @@ run_on-requires g c =
 pub returns-clause-keeps : goal.returns-clause-keeps
 returns-clause-keeps g c =
     let scene : Scene = record { set = c.args.set.now; rates = g.V.RateView.rates_at c.args.view.now; now = c.args.now } in
-    keeping c.args.list.now (run_numbered scene c.as_mut_slice.result.now c.args.chain c.args.list.now) c.run_on.result
-    (numbered_keeps scene c.as_mut_slice.result.now c.args.chain c.args.list.now) c.run_on.ensures.run
+    keeping c.args.list (run_numbered scene c.as_mut_slice.result.now c.args.chain c.args.list) c.run_on.result
+    (numbered_keeps scene c.as_mut_slice.result.now c.args.chain c.args.list) c.run_on.ensures.run
