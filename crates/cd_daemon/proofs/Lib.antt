@@ -1,3 +1,5 @@
 mod Answered
 mod Settled
+mod WorkedChains
 mod WorkedHistories
+pub mod Writers

@@ -26,9 +26,13 @@ use Rattle.cd_value.specs.declared.data.Value.TheVariants.{Gauge}
 use Rattle.cd_value.specs.declared.data.ValueList.{ValueList}
 use Rattle.std.proofs.Common.{Err, List, None, Ok, Some, [], arith, codes, false, length, pos, refl, true, ℕ, ◌<◌, ◌∷◌, ◌≡◌}
 
--- a daemon that knows gauges alone
+-- a daemon that knows gauges alone, and has no filter chains
 abbrev K : Opening
-K = record { types = single (codes "gauge") kinds.Gauge None ∷ []; globals = default_globals }
+K = record {
+  types = single (codes "gauge") kinds.Gauge None ∷ [];
+  globals = default_globals;
+  rules = record { chains = []; pre = None; post = None };
+}
 
 -- a gauge of some millionths at a time
 abbrev gauge : ℕ → ℕ → ValueList

@@ -1,6 +1,7 @@
 -- The cache after a history, and the calls that the entries make.
 use Rattle.cd_cache.specs.Cache.{CacheMap, empty}
-use Rattle.cd_daemon.specs.Handling.{Post, next_handling}
+use Rattle.cd_daemon.specs.Handling.{next_handling}
+use Rattle.cd_daemon.specs.Performing.{Post}
 use Rattle.cd_daemon.specs.declared.Opening.{Opening}
 use Rattle.cd_history.specs.History.{Event, History, ◌▸◌}
 use Rattle.cd_history.specs.Leases.{takes}

@@ -1,3 +1,4 @@
+pub mod Performing
 pub mod Handling
 pub mod Calls
 pub mod Answers
