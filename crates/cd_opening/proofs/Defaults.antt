@@ -1,4 +1,5 @@
 -- The settings of no item.
+use Rattle.cd_chain.specs.Tables.{jump_table, looped}
 use Rattle.cd_globals.specs.Globals.{default_globals}
 use Rattle.cd_globals.specs.declared.Globals.{Globals}
 use Rattle.cd_settings.specs.Settings.{settings_of}
@@ -14,9 +15,9 @@ globals_in (Ok found) = found.globals
 globals_in (Err fault) = default_globals
 
 pub default_settings : (found : Settings) → settings_of [] ≡ Ok found → found.globals ≡ default_globals
-unfolding after_all start
+unfolding after_all start looped jump_table
 default_settings found is = sym (ap globals_in is)
 
 pub settings_known : IsOk (settings_of [])
-unfolding after_all start
+unfolding after_all start looped jump_table
 settings_known = refl

@@ -10,13 +10,14 @@ use Rattle.cd_opening.specs.Types.{HasTypes, openings, types_of}
 use Rattle.cd_opening.specs.declared.fault.OpeningFault.TheVariants as faults
 use Rattle.cd_opening.specs.declared.fault.OpeningFault.{OpeningFault}
 use Rattle.cd_opening.specs.declared.opening.Opened.{Opened}
-use Rattle.cd_reading.specs.First.{◌>>=◌}
+use Rattle.cd_settings.specs.BigPatterns.{IsTooBig}
 use Rattle.cd_settings.specs.Paths.{paths_of}
 use Rattle.cd_settings.specs.Settings.{settings_of}
 use Rattle.cd_settings.specs.declared.fault.SettingsFault.{SettingsFault}
+use Rattle.cd_settings.specs.declared.fault.SettingsKind.TheVariants.{BadPattern}
 use Rattle.cd_settings.specs.declared.settings.Settings.{Settings}
 use Rattle.cd_value.specs.declared.data.DataSet.{DataSet}
-use Rattle.std.proofs.Common.{Err, List, None, Ok, Option, Result, Some, ap, refl, subst, sym, ℕ, ◌∙◌, ◌≡◌}
+use Rattle.std.proofs.Common.{Err, List, None, Ok, Option, Result, Some, ap, inl, inr, refl, subst, sym, ℕ, ◌∙◌, ◌≡◌, ◌⊎◌}
 
 -- ---- the configuration's text
 
@@ -79,6 +80,14 @@ record Decided (path : List ℕ) (told : List FileTells) (a : Result Opened Open
   is : IsRead text read
   gives : answer path told read ≡ a
 
+-- a fault that is no bad pattern is the first
+first : (items : List Item) (fault : SettingsFault) → (fault.kind ≡ BadPattern → ⊥) → (settings_of items ≡ Err fault) ⊎ IsTooBig items fault → settings_of items ≡ Err fault
+first items fault other refused =
+    elim refused [
+      | inl is ↦ is
+      | inr big ↦ absurd (other big.0)
+    ]
+
 decided : (path : List ℕ) (told : List FileTells) (a : Result Opened OpeningFault) → ComesTo path (Some told) a → IsOfTexts a → Decided path told a
 decided path told (Ok found) c by = record {
   text = c.items.text;
@@ -102,7 +111,7 @@ decided path told (Err (faults.Settings fault)) c by = record {
   read = Ok c.items;
   is = c.read.tree;
   gives = ap (λ (r : Result (List DataSet) OpeningFault). with_types c.items r) (types_told path told c.items (Ok c.types) c.known)
-      ∙ ap (λ (r : Result Settings SettingsFault). with_settings c.items c.types r) c.refused;
+      ∙ ap (λ (r : Result Settings SettingsFault). with_settings c.items c.types r) (first c.items fault by c.refused);
 }
 decided path told (Err (faults.Open at)) c by = absurd by
 decided path told (Err (faults.Read at)) c by = absurd by

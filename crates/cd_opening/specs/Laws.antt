@@ -4,14 +4,15 @@ use Rattle.cd_opening.specs.Opened.{ComesTo}
 use Rattle.cd_opening.specs.declared.fault.OpeningFault.TheVariants as faults
 use Rattle.cd_opening.specs.declared.fault.OpeningFault.{OpeningFault}
 use Rattle.cd_opening.specs.declared.opening.Opened.{Opened}
-use Rattle.std.specs.Prelude.{Err, List, Ok, Result, Some, ℕ, ◌≡◌}
+use Rattle.cd_settings.specs.declared.fault.SettingsKind.TheVariants.{BadPattern}
+use Rattle.std.specs.Prelude.{Err, List, Ok, Result, Some, ℕ, ◌≡◌, ◌≢◌}
 
--- the texts decide the answer: no call failed, and memory was enough
+-- the texts decide the answer: no call failed, memory was enough, and no pattern may be too big
 abbrev pub IsOfTexts : Result Opened OpeningFault → Type 0
 IsOfTexts (Ok found) = Unit {0}
 IsOfTexts (Err (faults.Conf fault)) = Unit {0}
 IsOfTexts (Err (faults.Types at fault)) = Unit {0}
-IsOfTexts (Err (faults.Settings fault)) = Unit {0}
+IsOfTexts (Err (faults.Settings fault)) = fault.kind ≢ BadPattern
 IsOfTexts (Err _) = ⊥
 
 -- where the files are told, that is one answer

@@ -46,7 +46,13 @@ abbrev pub settings_words : SettingsKind → List ℕ
 settings_words settings.UnknownOption = codes "unknown option"
 settings_words settings.WrongArgs = codes "wrong arguments"
 settings_words settings.LimitsCrossed = codes "limits crossed"
+settings_words settings.BadPattern = codes "bad pattern"
 settings_words settings.TooMany = codes "too many"
+settings_words settings.DuplicateChain = codes "duplicate chain"
+settings_words settings.EmptyRule = codes "empty rule"
+settings_words settings.UnknownChain = codes "unknown chain"
+settings_words (settings.JumpCycle names) = codes "jump cycle " ++ names
+settings_words settings.ChainTooHeavy = codes "chain too heavy"
 settings_words settings.Memory = codes "out of memory"
 
 -- the program's name, what is wrong, and a newline

@@ -19,7 +19,7 @@ pub enum OpeningFault {
         /// The fault.
         fault: TypesFault,
     },
-    /// The items of the configuration have this first fault.
+    /// The items of the configuration have this first fault, or a pattern at its line that may be too big.
     Settings(SettingsFault),
     /// The file at a path couldn't be opened: the world's count of faults rose.
     Open(Text),

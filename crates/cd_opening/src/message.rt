@@ -57,15 +57,25 @@ fn types_words(kind: TypesKind) -> &'static str
 }
 
 /// What is wrong with the items of a configuration.
-fn settings_words(kind: SettingsKind) -> &'static str
-    ensures { result.now ≡ settings_words kind }
+fn settings_words(alloc: Global, kind: &SettingsKind) -> Result<Text, Memory>
+    ensures { IfOk result (λ words. words ≡ settings_words kind.now) }
 {
     match kind {
-        SettingsKind::UnknownOption => "unknown option",
-        SettingsKind::WrongArgs => "wrong arguments",
-        SettingsKind::LimitsCrossed => "limits crossed",
-        SettingsKind::TooMany => "too many",
-        SettingsKind::Memory => "out of memory",
+        SettingsKind::UnknownOption => Text::of(alloc, "unknown option"),
+        SettingsKind::WrongArgs => Text::of(alloc, "wrong arguments"),
+        SettingsKind::BadPattern => Text::of(alloc, "bad pattern"),
+        SettingsKind::LimitsCrossed => Text::of(alloc, "limits crossed"),
+        SettingsKind::TooMany => Text::of(alloc, "too many"),
+        SettingsKind::DuplicateChain => Text::of(alloc, "duplicate chain"),
+        SettingsKind::EmptyRule => Text::of(alloc, "empty rule"),
+        SettingsKind::UnknownChain => Text::of(alloc, "unknown chain"),
+        SettingsKind::JumpCycle(names) => {
+            let mut words = Text::of(alloc, "jump cycle ")?;
+            words.push(names.as_str())?;
+            Ok(words)
+        }
+        SettingsKind::ChainTooHeavy => Text::of(alloc, "chain too heavy"),
+        SettingsKind::Memory => Text::of(alloc, "out of memory"),
     }
 }
 
@@ -89,7 +99,8 @@ pub fn text_of(alloc: Global, fault: &OpeningFault) -> Result<Text, Memory>
             text_at(alloc, path.as_str(), fault.line, types_words(fault.kind))
         }
         OpeningFault::Settings(fault) => {
-            text_at(alloc, "settings", fault.line, settings_words(fault.kind))
+            let words = settings_words(alloc, &fault.kind)?;
+            text_at(alloc, "settings", fault.line, words.as_str())
         }
         OpeningFault::Open(path) => {
             let text = format!(in alloc; "collectd: cannot open {}\n", path.as_str())?;

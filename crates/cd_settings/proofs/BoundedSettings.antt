@@ -1,4 +1,8 @@
 -- Settings that are accepted are within the bounds.
+use Rattle.cd_chain.specs.Chains.{number_of}
+use Rattle.cd_chain.specs.Tables.{fault_of}
+use Rattle.cd_chain.specs.declared.data.Chain.{Chain}
+use Rattle.cd_chain.specs.declared.data.ChainFault.{ChainFault}
 use Rattle.cd_conf.specs.Canonical.{items_text}
 use Rattle.cd_conf.specs.Parts.{args_of, children_of, line_of}
 use Rattle.cd_conf.specs.declared.item.Item.{Item}
@@ -8,13 +12,16 @@ use Rattle.cd_reading.specs.First.{◌>>=◌}
 use Rattle.cd_settings.proofs.BoundedForms.{Within, address_within, anything, host_within, interval_within, whole_within}
 use Rattle.cd_settings.proofs.LoadedPlugins.{block_keeps, given_where, load_keeps, none_keeps}
 use Rattle.cd_settings.specs.Bounds.{AcceptedSettingsAreBounded, AreBounded, AreGlobals, AreLimits, AreListens, ArePlugins, IsInterval, IsWithin}
+use Rattle.cd_settings.specs.ChainLines.{accepted, refused_for}
+use Rattle.cd_settings.specs.ChainOptions.{chain_of, named}
 use Rattle.cd_settings.specs.Faults.{at}
 use Rattle.cd_settings.specs.Forms.{Form, address, host, interval, is_host, off, one, text, texts, whole}
 use Rattle.cd_settings.specs.GlobalOptions.{global_options}
 use Rattle.cd_settings.specs.PluginOptions.{childless, network_options, unixsock_options, with_listen}
-use Rattle.cd_settings.specs.Settings.{finished, limit_of, lower_limit, settings, top_level_of}
+use Rattle.cd_settings.specs.Settings.{configuration_of, finished, limit_of, lower_limit, settings}
 use Rattle.cd_settings.specs.Tables.{Row, after_all, by_table, by_table_or, given, unknown}
-use Rattle.cd_settings.specs.TopLevel.{is_among, plugin, start, top_options, with_block, with_low, with_name, with_network, with_unixsock, within_globals}
+use Rattle.cd_settings.specs.TopLevel.{beginning, chain_sections, is_among, plugin, start, top_options, with_block, with_chain, with_low, with_name, with_network, with_unixsock, within_globals, within_top}
+use Rattle.cd_settings.specs.declared.configuration.Configuration.{Configuration}
 use Rattle.cd_settings.specs.declared.fault.SettingsFault.{SettingsFault}
 use Rattle.cd_settings.specs.declared.fault.SettingsKind.TheVariants.{LimitsCrossed, TooMany, UnknownOption}
 use Rattle.cd_settings.specs.declared.plugins.Listen.{Listen}
@@ -25,6 +32,7 @@ use Rattle.cd_settings.specs.declared.top_level.TopLevel.{TopLevel}
 use Rattle.std.proofs.Common.{Bool, Err, IfOk, IfSome, IsTrue, List, None, Ok, Option, Result, Some, [], arith, bytes_eq, codes, false, length, length-append, nat_lt, not, refl, true, ℕ, ◌&&◌, ◌++◌, ◌<◌, ◌∷◌, ◌≡◌, ◌≤◌}
 use Rattle.std.proofs.lemmas.Grind.{common_steps}
 use Rattle.std.proofs.lemmas.List.Elements.{All-push}
+use Rattle.std.proofs.lemmas.List.Quantifiers.{position-Some}
 use Rattle.std.specs.Prelude.{if◌then◌else◌}
 
 -- a change keeps a property, unless it is a fault
@@ -204,6 +212,10 @@ within_globals_keeps t item h =
 free : {A : Type 0} (form : Form A) → Keeps Held (λ s item. given item (form (args_of item)) (λ x i. Ok s))
 free form = free_keeps Held form (λ t x. t) (λ t x h. h)
 
+named_keeps : (put : TopLevel → List ℕ → TopLevel) → ((t : TopLevel) (x : List ℕ) → Held t → Held (put t x))
+    → Keeps Held (λ s item. given item (text (args_of item)) (λ x i. Ok (put s x)))
+named_keeps put k = free_keeps Held text put k
+
 top_keeps : Keeps Held (by_table_or within_globals top_options)
 top_keeps = table_keeps Held within_globals top_options within_globals_keeps (
   free_keeps Held text (λ t x. record t { loaded = with_name t.loaded x }) (λ t x h. held (record t { loaded = with_name t.loaded x }) h.globals h.low h.listens (load_keeps t.loaded t.blocks x h.plugins)),
@@ -212,7 +224,7 @@ top_keeps = table_keeps Held within_globals top_options within_globals_keeps (
         (λ t x item h b. held (record t { low = Some (record { count = x; line = line_of item }) }) h.globals b.1 h.listens h.plugins),
     (
       row_keeps Held (λ x. Unit {0}) text plugin (λ args. anything (text args)) (λ t x item h b. plugin_keeps t x item h),
-      (free texts, (free text, (free text, (free one, (free one, (free one, (free one, (free off, (free off, tt))))))))),
+      (free texts, (named_keeps (λ t x. record t { pre = x }) (λ t x h. held (record t { pre = x }) h.globals h.low h.listens h.plugins), (named_keeps (λ t x. record t { post = x }) (λ t x h. held (record t { post = x }) h.globals h.low h.listens h.plugins), (free one, (free one, (free one, (free one, (free off, (free off, tt))))))))),
     ),
   ),
 )
@@ -234,17 +246,56 @@ limits_hold high (Some low) most few = by (nat_lt 0 high && nat_lt high low.coun
     by true e = tt
     by false e = record { most = few; not_crossed = λ lt. grind (arith, common_steps) }
 
-finished_holds : (t : TopLevel) → Held t → IfOk (finished t) AreBounded
-finished_holds t h =
-    after (lower_limit t) (λ low. Ok (settings t low)) (AreLimits t.globals.high) AreBounded (limits_hold t.globals.high t.low h.globals.high h.low)
-    (λ low b. record {
-      globals = bounded_globals (settings t low).globals h.globals.hostname h.globals.interval h.globals.longest h.globals.timeout h.globals.read_threads h.globals.write_threads h.globals.high;
-      limits = b;
-      listens = h.listens;
-      plugins = h.plugins;
-      socket = given_where (is_among (codes "unixsock") t.loaded) t.unixsock.path;
-    })
+number_within : (name : List ℕ) (chains : List Chain) → IfSome (number_of name chains) (λ number. number < length chains)
+number_within name chains = by (number_of name chains) refl
+  where
+    by : (o : Option ℕ) → number_of name chains ≡ o → IfSome o (λ number. number < length chains)
+    by None e = tt
+    by (Some number) e = (position-Some (λ (chain : Chain). bytes_eq chain.name name) chains number (named []) e).0
+
+accepted_holds : (items : List Item) (chains : List Chain) → IfOk (accepted items chains) (λ table. fault_of table ≡ None)
+accepted_holds items chains = by (fault_of chains) refl
+  where
+    by : (o : Option ChainFault) → fault_of chains ≡ o → IfOk (refused_for items chains o) (λ table. fault_of table ≡ None)
+    by None e = e
+    by (Some why) e = tt
+
+abbrev HeldAll : Configuration → Type 0
+HeldAll c = Held c.top
+
+chains_keep : (c : Configuration) (name : List ℕ) (item : Item) → HeldAll c → IfOk (with_chain c name item) HeldAll
+chains_keep c name item h =
+    after (chain_of name item) (λ chain. Ok (record c { chains = c.chains ++ chain ∷ [] })) (λ chain. Unit {0}) HeldAll (anyway (chain_of name item)) (λ chain u. h)
+
+within_top_keeps : Keeps HeldAll within_top
+within_top_keeps c item h =
+    after (by_table_or within_globals top_options c.top item) (λ t. Ok (record c { top = t })) Held HeldAll (top_keeps c.top item h) (λ t b. b)
+
+all_sections_keep : Keeps HeldAll (by_table_or within_top chain_sections)
+all_sections_keep = table_keeps HeldAll within_top chain_sections within_top_keeps (
+  row_keeps HeldAll (λ x. Unit {0}) text with_chain (λ args. anything (text args)) (λ c x item h b. chains_keep c x item h),
+  tt,
+)
+
+settings_hold : (t : TopLevel) (low : ℕ) (chains : List Chain) → Held t → AreLimits t.globals.high low → fault_of chains ≡ None → AreBounded (settings t low chains)
+settings_hold t low chains h b fine = record {
+  globals = bounded_globals (settings t low chains).globals h.globals.hostname h.globals.interval h.globals.longest h.globals.timeout h.globals.read_threads h.globals.write_threads h.globals.high;
+  limits = b;
+  listens = h.listens;
+  plugins = h.plugins;
+  chains = fine;
+  pre = number_within t.pre chains;
+  post = number_within t.post chains;
+  socket = given_where (is_among (codes "unixsock") t.loaded) t.unixsock.path;
+}
+
+finished_holds : (items : List Item) (c : Configuration) → HeldAll c → IfOk (finished items c) AreBounded
+finished_holds items c h =
+    after (lower_limit c.top) (λ low. accepted items c.chains >>= λ chains. Ok (settings c.top low chains)) (AreLimits c.top.globals.high) AreBounded
+    (limits_hold c.top.globals.high c.top.low h.globals.high h.low)
+    (λ low b. after (accepted items c.chains) (λ chains. Ok (settings c.top low chains)) (λ table. fault_of table ≡ None) AreBounded
+    (accepted_holds items c.chains) (λ chains fine. settings_hold c.top low chains h b fine))
 
 pub accepted_are_bounded : AcceptedSettingsAreBounded
 accepted_are_bounded items =
-    after (top_level_of items) finished Held AreBounded (all_keep Held (by_table_or within_globals top_options) top_keeps start items start_holds) finished_holds
+    after (configuration_of items) (finished items) HeldAll AreBounded (all_keep HeldAll (by_table_or within_top chain_sections) all_sections_keep beginning items start_holds) (finished_holds items)

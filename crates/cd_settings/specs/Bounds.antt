@@ -1,4 +1,5 @@
 -- The bounds that accepted settings keep, and how their plug-ins, blocks and socket agree.
+use Rattle.cd_chain.specs.Tables.{fault_of}
 use Rattle.cd_globals.specs.declared.Globals.{Globals}
 use Rattle.cd_settings.specs.Forms.{is_host}
 use Rattle.cd_settings.specs.Settings.{settings_of}
@@ -10,7 +11,7 @@ use Rattle.cd_settings.specs.declared.settings.Settings.{Settings}
 use Rattle.cd_conf.specs.declared.item.Item.{Item}
 use Rattle.cd_value.specs.declared.numbers.TheConstants.{SECOND}
 use Rattle.std.specs.List.{IsDistinct}
-use Rattle.std.specs.Prelude.{All, IfOk, IsTrue, List, codes, is_some, length, map, ℕ, ◌*◌, ◌<◌, ◌^◌, ◌≡◌, ◌≤◌}
+use Rattle.std.specs.Prelude.{All, IfOk, IfSome, IsTrue, List, None, codes, is_some, length, map, ℕ, ◌*◌, ◌<◌, ◌^◌, ◌≡◌, ◌≤◌}
 use Rattle.std.specs.Str.{bytes_eq}
 
 abbrev pub IsWithin : ℕ → ℕ → ℕ → Type 0
@@ -52,9 +53,12 @@ pub record AreBounded (s : Settings) : Type 0 where
   pub limits : AreLimits s.globals.high s.globals.low
   pub listens : AreListens s.listens
   pub plugins : ArePlugins s.loaded s.blocks
+  pub chains : fault_of s.chains ≡ None
+  pub pre : IfSome s.pre (λ number. number < length s.chains)
+  pub post : IfSome s.post (λ number. number < length s.chains)
   pub socket : is_some s.socket ≡ is_among (codes "unixsock") s.loaded
 
--- whatever the items, settings that are accepted are within the bounds; there is a socket exactly
--- where `unixsock` is loaded
+-- whatever the items, settings that are accepted are within the bounds; their chains are accepted; there is
+-- a socket exactly where `unixsock` is loaded
 abbrev pub AcceptedSettingsAreBounded : Type 0
 AcceptedSettingsAreBounded = (items : List Item) → IfOk (settings_of items) AreBounded

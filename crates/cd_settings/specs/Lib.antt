@@ -1,9 +1,14 @@
+pub mod BigPatterns
 pub mod Bounds
+pub mod ChainLines
+pub mod ChainOptions
 pub mod Faults
 pub mod Forms
 pub mod GlobalOptions
+pub mod MatchOptions
 pub mod Paths
 pub mod PluginOptions
 pub mod Settings
 pub mod Tables
+pub mod TargetOptions
 pub mod TopLevel

@@ -1,19 +1,10 @@
 -- The files of types that a configuration names.
 use Rattle.cd_conf.specs.Parts.{args_of}
-use Rattle.cd_conf.specs.declared.item.Arg.TheVariants.{Words}
-use Rattle.cd_conf.specs.declared.item.Arg.{Arg}
 use Rattle.cd_conf.specs.declared.item.Item.{Item}
+use Rattle.cd_settings.specs.Forms.{texts_among}
 use Rattle.cd_settings.specs.Tables.{is_option_named}
 use Rattle.std.specs.List.{flat_map}
-use Rattle.std.specs.Prelude.{List, [], codes, if◌then◌else◌, ℕ, ◌∷◌}
-
-abbrev pub text_in : Arg → List (List ℕ)
-text_in (Words t) = t ∷ []
-text_in _ = []
-
--- the texts among values
-abbrev pub texts_among : List Arg → List (List ℕ)
-texts_among args = flat_map text_in args
+use Rattle.std.specs.Prelude.{List, [], codes, if◌then◌else◌, ℕ}
 
 abbrev pub paths_in : Item → List (List ℕ)
 paths_in item = if is_option_named (codes "TypesDB") item then texts_among (args_of item) else []

@@ -1,8 +1,12 @@
 -- The settings that items make.
+use Rattle.cd_chain.specs.Chains.{number_of}
+use Rattle.cd_chain.specs.declared.data.Chain.{Chain}
 use Rattle.cd_conf.specs.declared.item.Item.{Item}
 use Rattle.cd_reading.specs.First.{◌>>=◌}
+use Rattle.cd_settings.specs.ChainLines.{accepted}
 use Rattle.cd_settings.specs.Tables.{after_all, by_table_or}
-use Rattle.cd_settings.specs.TopLevel.{is_among, start, top_options, within_globals}
+use Rattle.cd_settings.specs.TopLevel.{beginning, chain_sections, is_among, within_top}
+use Rattle.cd_settings.specs.declared.configuration.Configuration.{Configuration}
 use Rattle.cd_settings.specs.declared.fault.SettingsFault.{SettingsFault}
 use Rattle.cd_settings.specs.declared.fault.SettingsKind.TheVariants.{LimitsCrossed}
 use Rattle.cd_settings.specs.declared.settings.Settings.{Settings}
@@ -11,8 +15,8 @@ use Rattle.cd_settings.specs.declared.top_level.TopLevel.{TopLevel}
 use Rattle.std.specs.Prelude.{Err, List, None, Ok, Option, Result, Some, codes, if◌then◌else◌, nat_lt, ℕ, ◌&&◌, ◌/◌}
 
 -- what all items set
-abbrev pub top_level_of : List Item → Result TopLevel SettingsFault
-top_level_of items = after_all (by_table_or within_globals top_options) start items
+abbrev pub configuration_of : List Item → Result Configuration SettingsFault
+configuration_of items = after_all (by_table_or within_top chain_sections) beginning items
 
 -- the lower limit of the write queue: half the upper one where no option names it; one that is above
 -- the upper one, where there is an upper one, is a fault at its own line
@@ -25,19 +29,25 @@ limit_of high (Some low) =
 abbrev pub lower_limit : TopLevel → Result ℕ SettingsFault
 lower_limit t = limit_of t.globals.high t.low
 
--- the socket is listened on where `unixsock` is loaded
-abbrev pub settings : TopLevel → ℕ → Settings
-settings t low = record {
+-- the socket is listened on where `unixsock` is loaded; the chains before and behind the cache are
+-- those of the names that were given, where there are such chains
+abbrev pub settings : TopLevel → ℕ → List Chain → Settings
+settings t low chains = record {
   globals = record t.globals { low = low };
   loaded = t.loaded;
   blocks = t.blocks;
+  chains = chains;
+  pre = number_of t.pre chains;
+  post = number_of t.post chains;
   socket = if is_among (codes "unixsock") t.loaded then Some t.unixsock.path else None;
   listens = t.network.listens;
 }
 
-abbrev pub finished : TopLevel → Result Settings SettingsFault
-finished t = lower_limit t >>= λ low. Ok (settings t low)
+-- limits that cross come before the faults of chains
+abbrev pub finished : List Item → Configuration → Result Settings SettingsFault
+finished items c =
+    lower_limit c.top >>= λ low. accepted items c.chains >>= λ chains. Ok (settings c.top low chains)
 
 -- the settings of items, or their first fault
 abbrev pub settings_of : List Item → Result Settings SettingsFault
-settings_of items = top_level_of items >>= finished
+settings_of items = configuration_of items >>= finished items

@@ -57,6 +57,10 @@ need_only item value = need item value >>= λ x. Ok tt
 abbrev pub given : {S A : Type 0} → Item → Option A → (A → Item → Result S SettingsFault) → Result S SettingsFault
 given item value change = need item value >>= λ x. change x item
 
+-- what a section gives, where its options are enough
+abbrev pub needs : {A : Type 0} → Bool → Item → A → Result A SettingsFault
+needs enough item x = if enough then Ok x else Err (at WrongArgs item)
+
 -- ---- the rows
 
 -- the items that a test lets through change the state, with values of a form

@@ -4,14 +4,16 @@ use Rattle.cd_conf.specs.Parts.{children_of, line_of}
 use Rattle.cd_conf.specs.declared.item.Item.{Item}
 use Rattle.cd_globals.specs.Globals.{default_globals}
 use Rattle.cd_reading.specs.First.{◌>>=◌}
+use Rattle.cd_settings.specs.ChainOptions.{chain_of}
 use Rattle.cd_settings.specs.Faults.{at}
 use Rattle.cd_settings.specs.Forms.{off, one, text, texts, whole}
 use Rattle.cd_settings.specs.GlobalOptions.{global_options}
 use Rattle.cd_settings.specs.PluginOptions.{network_options, unixsock_options}
-use Rattle.cd_settings.specs.Tables.{Row, after_all, by_table, ignored, option, option_of, section}
+use Rattle.cd_settings.specs.Tables.{Row, after_all, by_table, by_table_or, ignored, option, option_of, section}
 use Rattle.cd_settings.specs.declared.blocks.Block.{Block}
 use Rattle.cd_settings.specs.declared.fault.SettingsFault.{SettingsFault}
 use Rattle.cd_settings.specs.declared.fault.SettingsKind.TheVariants.{UnknownOption}
+use Rattle.cd_settings.specs.declared.configuration.Configuration.{Configuration}
 use Rattle.cd_settings.specs.declared.top_level.TopLevel.{TopLevel}
 use Rattle.std.specs.List.{list_any}
 use Rattle.std.specs.Prelude.{Bool, Err, List, None, Ok, Result, Some, [], codes, if◌then◌else◌, not, ℕ, ◌++◌, ◌∷◌}
@@ -26,6 +28,8 @@ start = record {
   blocks = [];
   unixsock = record { path = codes "/var/run/collectd-unixsock" };
   network = record { listens = [] };
+  pre = codes "PreCache";
+  post = codes "PostCache";
 }
 
 abbrev pub is_among : List ℕ → List (List ℕ) → Bool
@@ -67,15 +71,15 @@ with_low t n item = Ok (record t { low = Some (record { count = n; line = line_o
 abbrev pub within_globals : TopLevel → Item → Result TopLevel SettingsFault
 within_globals t item = by_table global_options t.globals item >>= λ g. Ok (record t { globals = g })
 
--- what stands there beside the options of the whole daemon
+-- what stands there beside the options of the whole daemon and the chains
 abbrev pub top_options : List (Row TopLevel)
 top_options =
     option "LoadPlugin" text (λ t x. record t { loaded = with_name t.loaded x })
     ∷ option_of "WriteQueueLimitLow" (whole 0 1000000) with_low
     ∷ section "Plugin" text plugin
     ∷ ignored "TypesDB" texts
-    ∷ ignored "PreCacheChain" text
-    ∷ ignored "PostCacheChain" text
+    ∷ option "PreCacheChain" text (λ t x. record t { pre = x })
+    ∷ option "PostCacheChain" text (λ t x. record t { post = x })
     ∷ ignored "BaseDir" one
     ∷ ignored "PluginDir" one
     ∷ ignored "PIDFile" one
@@ -83,3 +87,19 @@ top_options =
     ∷ ignored "AutoLoadPlugin" off
     ∷ ignored "CollectInternalStats" off
     ∷ []
+
+-- ---- chains
+
+abbrev pub with_chain : Configuration → List ℕ → Item → Result Configuration SettingsFault
+with_chain c name item =
+    chain_of name item >>= λ chain. Ok (record c { chains = c.chains ++ chain ∷ [] })
+
+abbrev pub chain_sections : List (Row Configuration)
+chain_sections = section "Chain" text with_chain ∷ []
+
+abbrev pub within_top : Configuration → Item → Result Configuration SettingsFault
+within_top c item =
+    by_table_or within_globals top_options c.top item >>= λ t. Ok (record c { top = t })
+
+abbrev pub beginning : Configuration
+beginning = record { top = start; chains = [] }

@@ -1,39 +1,93 @@
 //! Why items make no settings.
+ghost use Rattle.cd_settings.specs.BigPatterns.{told};
 ghost use Rattle.cd_settings.specs.declared.fault.SettingsKind.TheVariants as kinds;
 ghost use Rattle.std.specs.Prelude.{◌≡◌};
 
-use cd_value::Memory;
-use std::alloc::{AllocError, AllocFailed};
-use thiserror::Error;
+use cd_value::{Memory, Text, TryCopy};
+use std::alloc::{AllocError, AllocFailed, Global};
+use std::fmt;
 
 /// Why items make no settings.
-#[derive(Clone, Copy, Debug, PartialEq, Eq, Error)]
+#[derive(Drop, PartialEq, Eq)]
 pub enum SettingsKind {
     /// An option that doesn't stand in its place, a section for an option, or an option for a
     /// section.
-    #[error("unknown option")]
     UnknownOption,
     /// Values of another number or form than the option takes, or out of its range.
-    #[error("wrong arguments")]
     WrongArgs,
+    /// A text that is no regular expression, or one that is nested too deep or too big when it is compiled.
+    BadPattern,
     /// The lower limit of the write queue is above the upper one.
-    #[error("limits crossed")]
     LimitsCrossed,
     /// A Listen behind `LISTENS_LIMIT` others.
-    #[error("too many")]
     TooMany,
+    /// A chain of a name that an earlier one has.
+    DuplicateChain,
+    /// A rule without a target.
+    EmptyRule,
+    /// A jump to no chain.
+    UnknownChain,
+    /// A jump by which a chain reaches itself: the names of the chains from it to itself, with commas between.
+    JumpCycle(Text),
+    /// A chain that weighs more than 4,096: a target weighs 1, and a jump 1 more than its chain.
+    ChainTooHeavy,
     /// Memory was lacking.
-    #[error("out of memory")]
     Memory,
 }
 
 /// The first fault of items.
-#[derive(Clone, Copy, Debug, PartialEq, Eq)]
+#[derive(Drop, PartialEq, Eq)]
 pub struct SettingsFault {
     /// What is wrong.
     pub kind: SettingsKind,
     /// The line of the item that is wrong, from 1; 0 for want of memory.
     pub line: u32,
+}
+
+impl fmt::Display for SettingsKind {
+    fn fmt<W: fmt::Write>(&self, f: &mut fmt::Formatter<W>) -> fmt::Result {
+        match self {
+            SettingsKind::UnknownOption => f.write_str("unknown option"),
+            SettingsKind::WrongArgs => f.write_str("wrong arguments"),
+            SettingsKind::BadPattern => f.write_str("bad pattern"),
+            SettingsKind::LimitsCrossed => f.write_str("limits crossed"),
+            SettingsKind::TooMany => f.write_str("too many"),
+            SettingsKind::DuplicateChain => f.write_str("duplicate chain"),
+            SettingsKind::EmptyRule => f.write_str("empty rule"),
+            SettingsKind::UnknownChain => f.write_str("unknown chain"),
+            SettingsKind::JumpCycle(names) => write!(f, "jump cycle {}", names.as_str()),
+            SettingsKind::ChainTooHeavy => f.write_str("chain too heavy"),
+            SettingsKind::Memory => f.write_str("out of memory"),
+        }
+    }
+}
+
+impl TryCopy for SettingsKind {
+    fn copy(&self, alloc: Global) -> Result<SettingsKind, Memory> {
+        match self {
+            SettingsKind::UnknownOption => Ok(SettingsKind::UnknownOption),
+            SettingsKind::WrongArgs => Ok(SettingsKind::WrongArgs),
+            SettingsKind::BadPattern => Ok(SettingsKind::BadPattern),
+            SettingsKind::LimitsCrossed => Ok(SettingsKind::LimitsCrossed),
+            SettingsKind::TooMany => Ok(SettingsKind::TooMany),
+            SettingsKind::DuplicateChain => Ok(SettingsKind::DuplicateChain),
+            SettingsKind::EmptyRule => Ok(SettingsKind::EmptyRule),
+            SettingsKind::UnknownChain => Ok(SettingsKind::UnknownChain),
+            SettingsKind::JumpCycle(names) => Ok(SettingsKind::JumpCycle(names.copy(alloc)?)),
+            SettingsKind::ChainTooHeavy => Ok(SettingsKind::ChainTooHeavy),
+            SettingsKind::Memory => Ok(SettingsKind::Memory),
+        }
+    }
+}
+
+impl TryCopy for SettingsFault {
+    fn copy(&self, alloc: Global) -> Result<SettingsFault, Memory> {
+        let kind = self.kind.copy(alloc)?;
+        Ok(SettingsFault {
+            kind,
+            line: self.line,
+        })
+    }
 }
 
 impl From<AllocError> for SettingsFault {
@@ -66,5 +120,50 @@ impl From<Memory> for SettingsFault {
             kind: SettingsKind::Memory,
             line: 0,
         }
+    }
+}
+
+/// The fault of an item of a chain, as the sections tell it one to another.
+#[derive(Drop)]
+pub enum ItemFault {
+    /// A fault that the item's text tells, or want of memory.
+    Fault(SettingsFault),
+    /// The pattern of the option at this line wasn't compiled: it is none, or too big.
+    NotCompiled(u32),
+}
+
+impl From<SettingsFault> for ItemFault {
+    ghost use Rattle.cd_settings.specs.declared.fault.ItemFault.TheVariants as faults;
+
+    ghost from_gives = { λ fault e. e ≡ faults.Fault fault };
+
+    fn from(fault: SettingsFault) -> Self {
+        ItemFault::Fault(fault)
+    }
+}
+
+impl From<Memory> for ItemFault {
+    ghost use Rattle.cd_settings.specs.declared.fault.ItemFault.TheVariants as faults;
+
+    ghost from_gives = { λ _ e. e ≡ faults.Fault (record { kind = kinds.Memory; line = 0 }) };
+
+    fn from(_: Memory) -> Self {
+        ItemFault::Fault(SettingsFault {
+            kind: SettingsKind::Memory,
+            line: 0,
+        })
+    }
+}
+
+/// The fault of items: a pattern that wasn't compiled is a bad one.
+pub fn told(fault: ItemFault) -> SettingsFault
+    ensures { result ≡ told fault }
+{
+    match fault {
+        ItemFault::Fault(fault) => fault,
+        ItemFault::NotCompiled(line) => SettingsFault {
+            kind: SettingsKind::BadPattern,
+            line,
+        },
     }
 }

@@ -1,13 +1,15 @@
 //! Which option or section an item is, and what its values set.
+ghost use Rattle.cd_conf.specs.Parts.{children_of};
 ghost use Rattle.cd_reading.specs.Gives.{Gives};
 ghost use Rattle.cd_settings.specs.Faults.{at, settings_fault};
-ghost use Rattle.cd_settings.specs.Tables.{has_key, is_option_named, is_section_named, need, need_only};
+ghost use Rattle.cd_settings.specs.PluginOptions.{childless};
+ghost use Rattle.cd_settings.specs.Tables.{has_key, is_option_named, is_section_named, given, need, need_only, needs};
 ghost use Rattle.cd_settings.specs.declared.fault.SettingsKind.TheVariants.{UnknownOption};
-ghost use Rattle.std.specs.Prelude.{Err, option_copied, ◌≡◌};
+ghost use Rattle.std.specs.Prelude.{Err, Ok, [], option_copied, ◌++◌, ◌∷◌, ◌≡◌};
 
 use crate::fault::{SettingsFault, SettingsKind};
 use cd_conf::Item;
-use cd_value::Text;
+use cd_value::{Names, Text};
 use std::alloc::Global;
 
 /// A fault at the line of an item.
@@ -77,6 +79,43 @@ pub fn set_text(
             Ok(())
         }
         None => Err(at(SettingsKind::WrongArgs, item)),
+    }
+}
+
+/// What a section gives, where its options are enough.
+pub fn needs<T: Drop>(enough: bool, item: &Item, value: T) -> Result<T, SettingsFault>
+    ensures { result ≡ needs enough item.now value }
+{
+    if enough {
+        Ok(value)
+    } else {
+        Err(at(SettingsKind::WrongArgs, item))
+    }
+}
+
+/// Puts the text that the values of an item were read as behind others.
+pub fn add_text(
+    alloc: Global,
+    names: &mut Names,
+    value: Option<&str>,
+    item: &Item,
+) -> Result<(), SettingsFault>
+    ensures { let changed = given item.now (option_copied value.entry)
+        (λ x _. Ok (names.old ++ x ∷ [])) in
+        Gives (λ _. names.new) settings_fault result changed }
+{
+    let name = needed(value, item)?;
+    names.push(Text::of(alloc, name)?)?;
+    Ok(())
+}
+
+/// Refuses an item in which another stands, at the line of that one.
+pub fn childless(item: &Item) -> Result<(), SettingsFault>
+    ensures { result ≡ childless (children_of item.now) }
+{
+    match item.children.as_slice().first() {
+        Some(child) => unknown(child),
+        None => Ok(()),
     }
 }
 

@@ -1,5 +1,6 @@
 //! The files of types that a configuration names.
-ghost use Rattle.cd_settings.specs.Paths.{paths_of, text_in, texts_among};
+ghost use Rattle.cd_settings.specs.Forms.{text_in, texts_among};
+ghost use Rattle.cd_settings.specs.Paths.{paths_of};
 ghost use Rattle.std.specs.Prelude.{IfOk, OnOk, ◌++◌, ◌≡◌};
 
 use crate::items::option;
@@ -18,7 +19,7 @@ fn push_text(alloc: Global, paths: &mut Names, arg: &Arg) -> Result<(), Memory>
 }
 
 /// Puts the texts among values behind.
-fn push_texts(alloc: Global, paths: &mut Names, args: &[Arg]) -> Result<(), Memory>
+pub(crate) fn push_texts(alloc: Global, paths: &mut Names, args: &[Arg]) -> Result<(), Memory>
     ensures { OnOk result (paths.new ≡ paths.old ++ texts_among args.now) }
 {
     for arg in args {

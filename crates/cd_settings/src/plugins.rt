@@ -1,16 +1,14 @@
 //! The blocks of the plug-ins `unixsock` and `network`.
-ghost use Rattle.cd_conf.specs.Parts.{children_of};
 ghost use Rattle.cd_reading.specs.Gives.{Gives};
 ghost use Rattle.cd_settings.specs.Faults.{settings_fault};
 ghost use Rattle.cd_settings.specs.Forms.{listen_of};
-ghost use Rattle.cd_settings.specs.PluginOptions.{childless, with_listen};
+ghost use Rattle.cd_settings.specs.PluginOptions.{with_listen};
 ghost use Rattle.cd_settings.specs.Tables.{given};
 ghost use Rattle.std.specs.Option.{option_map};
-ghost use Rattle.std.specs.Prelude.{◌≡◌};
 
 use crate::fault::{SettingsFault, SettingsKind};
 use crate::forms::{text, whole};
-use crate::items::{at, either, ignore, needed, option, set_text, unknown};
+use crate::items::{at, childless, either, ignore, needed, option, set_text, unknown};
 use crate::ports::address;
 use crate::section::Section;
 use cd_conf::Item;
@@ -62,16 +60,6 @@ impl Section for UnixSock {
             option "SocketPerms" => Ok(()),
             option "DeleteSocket" => Ok(()),
         }
-    }
-}
-
-/// Refuses an item in which another stands, at the line of that one.
-fn childless(item: &Item) -> Result<(), SettingsFault>
-    ensures { result ≡ childless (children_of item.now) }
-{
-    match item.children.as_slice().first() {
-        Some(child) => unknown(child),
-        None => Ok(()),
     }
 }
 

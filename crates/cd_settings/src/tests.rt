@@ -112,7 +112,7 @@ fn reads_the_options_of_the_daemon(rt: HostRuntime) -> Result<(), Fail> {
 }
 
 /// Texts, and the fault of each.
-const FAULTS: [(&str, &str); 38] = [
+const FAULTS: [(&str, &str); 37] = [
     ("<Plugin network>\n= 1\n</Plugin>\n", "bad key in line 2"),
     ("\nFoo 1\nTimeout 0\n", "unknown option in line 2"),
     ("Timeout 0\nFoo 1\n", "wrong arguments in line 1"),
@@ -125,7 +125,6 @@ const FAULTS: [(&str, &str); 38] = [
         "<LoadPlugin \"a\">\n</LoadPlugin>\n",
         "unknown option in line 1",
     ),
-    ("<Chain \"a\">\n</Chain>\n", "unknown option in line 1"),
     ("Chain \"a\"\n", "unknown option in line 1"),
     ("Include \"a\"\n", "unknown option in line 1"),
     ("Hostname \"\"\n", "wrong arguments in line 1"),

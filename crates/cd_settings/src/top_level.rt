@@ -8,7 +8,7 @@ ghost use Rattle.std.specs.Prelude.{IfOk, Ok, option_copied, ◌≡◌};
 use crate::blocks::{Blocks, add};
 use crate::fault::{SettingsFault, SettingsKind};
 use crate::forms::{off, one, text, texts, whole};
-use crate::items::{at, ignore, needed, option, section, unknown};
+use crate::items::{at, ignore, needed, option, section, set_text, unknown};
 use crate::loaded::Loaded;
 use crate::plugins::{Network, UnixSock};
 use crate::section::Section;
@@ -41,6 +41,10 @@ pub struct TopLevel {
     pub unixsock: UnixSock,
     /// What the blocks of `network` set.
     pub network: Network,
+    /// The name of the chain before the cache.
+    pub pre: Text,
+    /// The name of the chain behind the cache.
+    pub post: Text,
 }
 
 /// Puts a name behind the others, where it isn't among them.
@@ -78,6 +82,8 @@ impl TopLevel {
             network: Network {
                 listens: Sequence::new(alloc),
             },
+            pre: Text::of(alloc, "PreCache")?,
+            post: Text::of(alloc, "PostCache")?,
         })
     }
 
@@ -134,8 +140,8 @@ impl Section for TopLevel {
             option "WriteQueueLimitLow" => self.take_low(whole(item, 0, 1_000_000), item),
             section "Plugin" => self.take_plugin(alloc, text(item), item),
             option "TypesDB" => ignore(texts(item), item),
-            option "PreCacheChain" => ignore(text(item), item),
-            option "PostCacheChain" => ignore(text(item), item),
+            option "PreCacheChain" => set_text(alloc, &mut self.pre, text(item), item),
+            option "PostCacheChain" => set_text(alloc, &mut self.post, text(item), item),
             option "BaseDir" => ignore(one(item), item),
             option "PluginDir" => ignore(one(item), item),
             option "PIDFile" => ignore(one(item), item),

@@ -1,5 +1,5 @@
 use Rattle.std.proofs.Common.{◌≡◌, ◌++◌, take}
-use Rattle.cd_settings.specs.Paths.{texts_among}
+use Rattle.cd_settings.specs.Forms.{texts_among}
 use Rattle.cd_settings.proofs.paths.push_texts.Given as goal
 
 abbrev pub invariant-loop-arg : goal.invariant-loop-arg
