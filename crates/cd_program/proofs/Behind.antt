@@ -376,27 +376,27 @@ unheard_so (Err fault) begun after run_end end failed same none is usage = absur
     lacks : (kept : List ℕ) → 0 < length kept → kept ≡ [] → ⊥
     lacks kept some none = let size : length kept ≡ 0 = ap length none in omega (arith, size, some)
 
--- the run's end is one of these, where its link didn't fail
-pub ends_so : (wanted other : End) (words : List (List ℕ)) (files : Option (List FileTells)) (plugs back : List OnShelf) (given : List Given) (begun : Pairs)
+-- the run's end is this one or of a kind, where its link didn't fail
+pub ends_so : (wanted : End) (Other : End → Type 0) (words : List (List ℕ)) (files : Option (List FileTells)) (plugs back : List OnShelf) (given : List Given) (begun : Pairs)
     (before first told after : LinkTells) (run_end end : End) (late : Bool) → first ≡ gathered [] before → Promises words files plugs back given begun first told run_end
-    → Finishes late told after → end ≡ end_after late run_end → (run_end ≡ wanted) ⊎ (run_end ≡ other)
-    → (Rose before.faults after.faults → ⊥) → (end ≡ wanted) ⊎ (end ≡ other)
-ends_so wanted other words files plugs back given begun before first told after run_end end late begins run fin is ends fine =
+    → Finishes late told after → end ≡ end_after late run_end → (run_end ≡ wanted) ⊎ Other run_end
+    → (Rose before.faults after.faults → ⊥) → (end ≡ wanted) ⊎ Other end
+ends_so wanted Other words files plugs back given begun before first told after run_end end late begins run fin is ends fine =
     let timely = in_time before told after run_end end late fin is (counts_so words files plugs back given begun before first told run_end begins run) fine in
     elim ends [
       | inl e ↦ inl (timely.0 ∙ e)
-      | inr e ↦ inr (timely.0 ∙ e)
+      | inr other ↦ inr (subst Other (sym timely.0) other)
     ]
 
-pub completes_so : (mode : Mode) (words : List (List ℕ)) (files : Option (List FileTells)) (plugs back : List OnShelf) (given : List Given) (begun : Pairs)
+pub completes_so : (mode : Mode) (Other : End → Type 0) (words : List (List ℕ)) (files : Option (List FileTells)) (plugs back : List OnShelf) (given : List Given) (begun : Pairs)
     (before first told after : LinkTells) (run_end end : End) (late : Bool) → first ≡ gathered [] before → Promises words files plugs back given begun first told run_end
     → Finishes late told after → end ≡ end_after late run_end
-    → ((Rose first.faults told.faults → ⊥) → IsTaken mode first told → (run_end ≡ ends.Done) ⊎ (run_end ≡ ends.Memory))
-    → (Rose before.faults after.faults → ⊥) → IsTaken mode before after → (end ≡ ends.Done) ⊎ (end ≡ ends.Memory)
-completes_so mode words files plugs back given begun before first told after run_end end late begins run fin is completes fine taken =
+    → ((Rose first.faults told.faults → ⊥) → IsTaken mode first told → (run_end ≡ ends.Done) ⊎ Other run_end)
+    → (Rose before.faults after.faults → ⊥) → IsTaken mode before after → (end ≡ ends.Done) ⊎ Other end
+completes_so mode Other words files plugs back given begun before first told after run_end end late begins run fin is completes fine taken =
     let timely = in_time before told after run_end end late fin is (counts_so words files plugs back given begun before first told run_end begins run) fine in
     let same = ap (λ (l : LinkTells). l.faults) begins in
     let R : ℕ → ℕ → Type 0 = Rose in
-    ends_so ends.Done ends.Memory words files plugs back given begun before first told after run_end end late begins run fin is
+    ends_so ends.Done Other words files plugs back given begun before first told after run_end end late begins run fin is
     (completes (λ rose. fine (subst (λ (n : ℕ). R before.faults n) (sym timely.1) (subst (λ (n : ℕ). R n told.faults) same rose))) (taken_before mode before first told after late begins fin taken))
     fine

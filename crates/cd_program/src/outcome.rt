@@ -8,7 +8,7 @@ ghost use Rattle.cd_program.specs.Program.{writer};
 ghost use Rattle.cd_serve.specs.Ends.{message_of, status_of};
 ghost use Rattle.cd_serve.specs.Promises.{IsTaken};
 ghost use Rattle.cd_serve.specs.Shelf.{on_shelf, places};
-ghost use Rattle.cd_serve.specs.Started.{AreAccepted, AreRefused, HasTried, NoneFailed, end_at};
+ghost use Rattle.cd_serve.specs.Started.{AreAccepted, AreRefused, HasTried, IsFree, NoneFailed, end_at};
 ghost use Rattle.std.specs.Io.KnownBytes.{Appends};
 ghost use Rattle.std.specs.Prelude.{IfNone, IfOk, IfSome, None, OnOk, Some, [], is_err, map, string_bytes, ◌≡◌, ◌⊎◌};
 
@@ -90,8 +90,8 @@ fn shelf_of(alloc: Global, object: Box<dyn Plug + Send>) -> Result<Vec<Shelved>,
 
 /// Runs the daemon by these words with one writer, `w`, called with value lists, over a link behind one that gathers
 /// replies. The last replies are said at the end; where they can't be, the end is a fault of the link. The link comes
-/// back, and the writer in its place, at any end. It answers no run where memory was lacking for the shelf; then nothing
-/// was done.
+/// back, and the writer in its place, at any end. It answers no run where memory was lacking for the shelf; then
+/// nothing was done.
 pub fn run_gathered<W: World, L: Link>(
     alloc: Global,
     words: &[String],
@@ -124,14 +124,15 @@ pub fn run_gathered<W: World, L: Link>(
         → AreRefused of.file (W.world_tells world.old).files fault
         → NoneFailed (W.world_tells world.old) (W.world_tells world.new)
         → (Rose (L.link_tells link).faults (L.link_tells result.1).faults → ⊥)
-        → (ran.end ≡ end_at fault) ⊎ (ran.end ≡ End.Memory)) }
+        → (ran.end ≡ end_at fault)
+        ⊎ IsFree of.file (W.world_tells world.old).files ran.end) }
     ensures complete { IfSome result.0 (λ ran. (of : Command)
         → command (map string_bytes words.now) ≡ Some of
         → AreAccepted of.file (W.world_tells world.old).files
         → NoneFailed (W.world_tells world.old) (W.world_tells world.new)
         → (Rose (L.link_tells link).faults (L.link_tells result.1).faults → ⊥)
         → IsTaken of.mode (L.link_tells link) (L.link_tells result.1)
-        → (ran.end ≡ End.Done) ⊎ (ran.end ≡ End.Memory)) }
+        → (ran.end ≡ End.Done) ⊎ IsFree of.file (W.world_tells world.old).files ran.end) }
     ensures back { IfSome result.0 (λ ran.
         places (on_shelf ⟦<Box<dyn Plug + Send> as Plug>⟧.plug_tells ran.plugs.items)
         ≡ places (writer (⟦<Box<dyn Plug + Send> as Plug>⟧.plug_tells object))) }

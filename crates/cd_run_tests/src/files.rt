@@ -28,7 +28,7 @@ const USAGE: &str = "collectd: usage: collectd [-f] [-C file] [-t, -T, --lines o
 
 /// A run by words that are cut at blanks, over the files `c` and `types.db`, where they have a text, with the writer
 /// `w`; and what it said.
-fn ran(
+pub(crate) fn ran(
     alloc: Global,
     line: &str,
     configuration: &str,

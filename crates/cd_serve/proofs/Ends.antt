@@ -16,8 +16,9 @@ use Rattle.cd_history.specs.declared.entry.RegisterFault.{RegisterFault}
 use Rattle.cd_history.specs.declared.entry.Why.TheVariants as why
 use Rattle.cd_history.specs.declared.given.Given.{Given}
 use Rattle.cd_registry.specs.Faults.{is_reserved}
+use Rattle.cd_serve.proofs.Calling.{same_number}
 use Rattle.cd_serve.proofs.Shelves.{bytes_same, returned-same}
-use Rattle.cd_serve.proofs.Steps.{all_handled, live-is, same_number, works_on}
+use Rattle.cd_serve.proofs.Steps.{all_handled, live-is, works_on}
 use Rattle.cd_serve.specs.Promises.{IsRun}
 use Rattle.cd_serve.specs.Shelf.{loaded_of}
 use Rattle.cd_serve.specs.Working.Standing.{AreOf, RunsOn, Standing, Writes, registration_of}

@@ -1,3 +1,6 @@
+pub mod Calling
+pub mod Performing
+pub mod Passages
 pub mod Steps
 pub mod Shelves
 pub mod Ends

@@ -4,7 +4,6 @@ use Rattle.cd_daemon.specs.declared.Opening.{Opening}
 use Rattle.cd_dialogue.proofs.Families.{AllServed-weaker, LinkLost-weaker, MemoryLacked-weaker, TooMuch-weaker}
 use Rattle.cd_dialogue.proofs.Serving.{served_all_of}
 use Rattle.cd_dialogue.specs.Dialogues.{GivenUp, ServedLast, ServesInput}
-use Rattle.cd_dialogue.specs.Inputs.{MemoryLacked}
 use Rattle.cd_dialogue.specs.Served.{ClosedAt, Served}
 use Rattle.cd_dialogue.specs.declared.ends.DialogueFault.TheVariants as faults
 use Rattle.cd_dialogue.specs.declared.ends.DialogueFault.{DialogueFault}

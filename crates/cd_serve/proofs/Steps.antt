@@ -1,43 +1,35 @@
 -- The steps of a daemon with at most one plug-in.
 use Rattle.cd_cache.specs.Cache.{CacheMap}
-use Rattle.cd_daemon.specs.Answers.{accept_answer, handle_answer, is_idle, may_be_taken, next_call, query_answer, ready}
+use Rattle.cd_daemon.proofs.Writers.{sent_all, sent_elsewhere, sent_to_nobody}
+use Rattle.cd_daemon.specs.Answers.{accept_answer, handle_answer, is_idle, may_be_taken, query_answer, ready}
 use Rattle.cd_daemon.specs.Calls.{cache_after, calls_to, pending, sent_to}
-use Rattle.cd_daemon.specs.Handling.{Handling, handling, handling_if_any, next_handling, next_list, set_of, stored, to_each}
+use Rattle.cd_daemon.specs.Handling.{Handling, handling, handling_if_any, next_handling, next_list}
+use Rattle.cd_daemon.specs.Performing.{Post}
 use Rattle.cd_daemon.specs.declared.Opening.{Opening}
 use Rattle.cd_history.specs.History.{History, handles, kept, kept_of, ◌▸◌}
-use Rattle.cd_history.specs.Leases.{taken_by, takes}
-use Rattle.cd_history.specs.Registrations.{Registration, is_closed, is_plug, is_retired, listeners, live, registrations}
+use Rattle.cd_history.specs.Leases.{takes}
+use Rattle.cd_history.specs.Registrations.{Registration, is_closed, is_plug, is_retired, live, registrations}
 use Rattle.cd_history.specs.declared.entry.Entry.TheVariants as entry
-use Rattle.cd_history.specs.declared.given.Given.TheVariants.{Answered, Now}
+use Rattle.cd_history.specs.declared.given.Given.TheVariants.{Now}
 use Rattle.cd_history.specs.declared.given.Given.{Given}
-use Rattle.cd_registry.specs.declared.calls.Answer.{Answer}
-use Rattle.cd_registry.specs.declared.calls.Call.TheVariants as calls
+use Rattle.cd_registry.specs.declared.calls.AnsweredCall.{AnsweredCall}
 use Rattle.cd_registry.specs.declared.calls.Call.{Call}
-use Rattle.cd_registry.specs.declared.kinds.TheConstants.Kinds.{WRITE}
-use Rattle.cd_serve.specs.Working.Standing.{IsWriter, Standing}
-use Rattle.cd_transcript.specs.LineRuns.{IsAsked, Works, WorksUntilIdle, called, handled}
+use Rattle.cd_serve.proofs.Calling.{called-cache, called-calls, called-closed, called-handles, called-home, called-kept, called-registrations, called-retired, called-stopped, called-takes}
+use Rattle.cd_serve.specs.Working.Standing.{Standing}
+use Rattle.cd_transcript.proofs.CallsInOrder.{IsAlone, all_called, alone_after, alone_handled, answers_of, calls_of, legal_after, next_calls, seam, works_handled}
+use Rattle.cd_transcript.specs.LineRuns.{IsAsked, Works, WorksUntilIdle}
 use Rattle.cd_types.specs.Types.{fits}
 use Rattle.cd_value.specs.declared.data.Offered.TheVariants.{Kept}
 use Rattle.cd_value.specs.declared.data.ValueList.{ValueList}
-use Rattle.std.proofs.Common.{Bool, IsTrue, List, None, Ok, Option, Some, [], ap, append_assoc, arith, cond, false, length, length-append, map, nat_eq, nat_le, not, refl, subst, sym, true, ℕ, ◌&&◌, ◌++◌, ◌+◌, ◌<◌, ◌∙◌, ◌∷◌, ◌≡◌}
-use Rattle.std.proofs.Math.Seq.{get_or-append_seam}
+use Rattle.std.proofs.Common.{Bool, IsTrue, List, None, Ok, Option, Some, [], ap, append_assoc, arith, false, length, length-append, map, nat_eq, nat_le, not, refl, subst, sym, true, ℕ, ◌&&◌, ◌++◌, ◌+◌, ◌<◌, ◌∙◌, ◌∷◌, ◌≡◌}
 use Rattle.std.proofs.lemmas.List.{append-nil}
-use Rattle.std.proofs.lemmas.Option.{slice_get-get_or}
-use Rattle.std.specs.List.{filter, find, list_all, slice_get}
+use Rattle.std.specs.List.{filter, find, list_all}
 
 -- ---- lists
-
-pub seam : {A : Type 0} (xs : List A) (y : A) (ys : List A) → slice_get (xs ++ y ∷ ys) (length xs) ≡ Some y
-seam xs y ys =
-    slice_get-get_or (xs ++ y ∷ ys) (length xs) y (omega (arith, length-append xs (y ∷ ys)))
-    ∙ ap Some (get_or-append_seam xs y ys y)
 
 all_kept : (lists : List ValueList) → kept_of lists (map (λ list. Kept) lists) ≡ lists
 all_kept [] = refl
 all_kept (list ∷ lists) = ap (λ (xs : List ValueList). list ∷ xs) (all_kept lists)
-
-pub same_number : (n : ℕ) → nat_eq n n ≡ true
-same_number n = grind arith
 
 -- ---- nobody is ready where no call waits
 
@@ -102,22 +94,21 @@ accepts {K = K} {regs = regs} {cache = cache} {P = P} lists words now s fit many
 pub next_is : {K : Opening} {stopped : Bool} {regs : List Registration} {cache : CacheMap} {P : History} (v : ValueList) (queue : List ValueList) → Standing K stopped regs (v ∷ queue) cache P → next_list P ≡ Some v
 next_is v queue s = rw (s.queued, s.counted) (seam s.earlier v queue)
 
+-- all registrations are live
+pub live-is : {K : Opening} {stopped : Bool} {regs : List Registration} {queue : List ValueList} {cache : CacheMap} {P : History} → Standing K stopped regs queue cache P → live P ≡ regs
+live-is {regs = regs} {P = P} s = ap (filter (λ g. not (is_closed g.number P))) s.registers ∙ all_pass regs
+  where
+    all_pass : (gs : List Registration) → filter (λ g. not (is_closed g.number P)) gs ≡ gs
+    all_pass [] = refl
+    all_pass (g ∷ gs) = rw (s.unclosed g.number, all_pass gs) refl
+
 -- what the next Handle does
-handles-as : {K : Opening} {stopped : Bool} {regs : List Registration} {cache : CacheMap} {P : History} (v : ValueList) (queue : List ValueList) (now : ℕ)
-    → Standing K stopped regs (v ∷ queue) cache P → next_handling K (cache_after K P) P now ≡ handling K cache (live P) v now
+pub handles-as : {K : Opening} {stopped : Bool} {regs : List Registration} {cache : CacheMap} {P : History} (v : ValueList) (queue : List ValueList) (now : ℕ)
+    → Standing K stopped regs (v ∷ queue) cache P → next_handling K (cache_after K P) P now ≡ handling K cache regs v now
 handles-as {K = K} {cache = cache} {P = P} v queue now s =
     ap (λ (next : Option ValueList). handling_if_any K (cache_after K P) (live P) next now) (next_is v queue s)
     ∙ ap (λ (c : CacheMap). handling K c (live P) v now) s.caches
-
--- the cache after the next list
-stored_next : {K : Opening} {stopped : Bool} {regs : List Registration} {cache : CacheMap} {P : History} (v : ValueList) (queue : List ValueList) (now : ℕ)
-    → Standing K stopped regs (v ∷ queue) cache P → (next_handling K (cache_after K P) P now).cache ≡ stored (set_of K.types v) v now cache
-stored_next v queue now s = ap (λ (h : Handling). h.cache) (handles-as v queue now s)
-
--- the calls that it makes
-posts_next : {K : Opening} {stopped : Bool} {regs : List Registration} {cache : CacheMap} {P : History} (v : ValueList) (queue : List ValueList) (now : ℕ)
-    → Standing K stopped regs (v ∷ queue) cache P → (next_handling K (cache_after K P) P now).posts ≡ to_each (listeners WRITE (live P)) (calls.Write v)
-posts_next v queue now s = ap (λ (h : Handling). h.posts) (handles-as v queue now s)
+    ∙ ap (λ (gs : List Registration). handling K cache gs v now) (live-is s)
 
 pub one_queued : {K : Opening} {stopped : Bool} {regs : List Registration} {cache : CacheMap} {P : History} (v : ValueList) (queue : List ValueList) → Standing K stopped regs (v ∷ queue) cache P → handles P < length (kept P)
 one_queued v queue s = rw (s.queued, s.counted) (omega (arith, length-append s.earlier (v ∷ queue)))
@@ -125,15 +116,10 @@ one_queued v queue s = rw (s.queued, s.counted) (omega (arith, length-append s.e
 one_more : (xs : List ValueList) (v : ValueList) → length xs + 1 ≡ length (xs ++ v ∷ [])
 one_more xs v = omega (arith, length-append xs (v ∷ []))
 
--- where nobody is written to no call is made
-pub calls_to-unwritten : {K : Opening} {stopped : Bool} {regs : List Registration} {cache : CacheMap} {P : History} (v : ValueList) (queue : List ValueList) (now : ℕ)
-    → Standing K stopped regs (v ∷ queue) cache P → listeners WRITE (live P) ≡ [] → (r : ℕ) → calls_to K r (P ▸ entry.Handle 0 now (handle_answer K P now)) ≡ calls_to K r P
-calls_to-unwritten {K = K} {P = P} v queue now s nobody r = rw (posts_next v queue now s, nobody) (quiet (calls_to K r P))
-
-pub handles_unwritten : {K : Opening} {stopped : Bool} {regs : List Registration} {cache : CacheMap} {P : History} (v : ValueList) (queue : List ValueList) (now : ℕ)
-    → Standing K stopped regs (v ∷ queue) cache P → listeners WRITE (live P) ≡ []
-    → Standing K stopped regs queue (stored (set_of K.types v) v now cache) (P ▸ entry.Handle 0 now (handle_answer K P now))
-handles_unwritten {K = K} {P = P} v queue now s nobody = record {
+-- where nobody is registered no call is made
+pub handles_alone : {K : Opening} {stopped : Bool} {cache : CacheMap} {P : History} (v : ValueList) (queue : List ValueList) (now : ℕ)
+    → Standing K stopped [] (v ∷ queue) cache P → Standing K stopped [] queue (handling K cache [] v now).cache (P ▸ entry.Handle 0 now (handle_answer K P now))
+handles_alone {K = K} {cache = cache} {P = P} v queue now s = record {
   legal = (s.legal, (refl, one_queued v queue s));
   is_so = s.is_so;
   registers = s.registers;
@@ -143,96 +129,75 @@ handles_unwritten {K = K} {P = P} v queue now s nobody = record {
   earlier = s.earlier ++ v ∷ [];
   queued = s.queued ∙ sym (append_assoc s.earlier (v ∷ []) queue);
   counted = ap (λ (n : ℕ). n + 1) s.counted ∙ one_more s.earlier v;
-  taken = λ r. s.taken r ∙ ap length (sym (calls_to-unwritten v queue now s nobody r));
-  caches = stored_next v queue now s;
+  taken = λ r. s.taken r ∙ ap length (sym (ap (λ (posts : List Post). calls_to K r P ++ sent_to r posts) none ∙ quiet (calls_to K r P)));
+  caches = ap (λ (h : Handling). h.cache) (handles-as v queue now s);
 }
-
--- all registrations are live
-pub live-is : {K : Opening} {stopped : Bool} {regs : List Registration} {queue : List ValueList} {cache : CacheMap} {P : History} → Standing K stopped regs queue cache P → live P ≡ regs
-live-is {regs = regs} {P = P} s = ap (filter (λ g. not (is_closed g.number P))) s.registers ∙ all_pass regs
   where
-    all_pass : (gs : List Registration) → filter (λ g. not (is_closed g.number P)) gs ≡ gs
-    all_pass [] = refl
-    all_pass (g ∷ gs) = rw (s.unclosed g.number, all_pass gs) refl
+    none : (next_handling K (cache_after K P) P now).posts ≡ []
+    none = ap (λ (h : Handling). h.posts) (handles-as v queue now s) ∙ sent_to_nobody K cache [] v now refl
 
-live_one : {K : Opening} {stopped : Bool} {g : Registration} {queue : List ValueList} {cache : CacheMap} {P : History} → Standing K stopped (g ∷ []) queue cache P → live P ≡ g ∷ []
-live_one s = live-is s
+-- The calls that a Handle makes to the only registration, a plug-in, are taken and answered, in order.
+module _ (K : Opening) (stopped : Bool) (g : Registration) (P : History) (v : ValueList) (queue : List ValueList) (cache : CacheMap) (now : ℕ)
+    (cs : List AnsweredCall) (s : Standing K stopped (g ∷ []) (v ∷ queue) cache P) (plugged : is_plug g.joining ≡ true)
+    (are : map (λ (p : Post). p.call) (handling K cache (g ∷ []) v now).posts ≡ calls_of cs) where
+  abbrev handled_first : History
+  handled_first = P ▸ entry.Handle 0 now (handle_answer K P now)
 
-pub listens : {K : Opening} {stopped : Bool} {g : Registration} {queue : List ValueList} {cache : CacheMap} {P : History} → Standing K stopped (g ∷ []) queue cache P → IsWriter g → listeners WRITE (live P) ≡ g.number ∷ []
-listens s w = rw (live_one s, w.writes) refl
+  abbrev pub after_calls : History
+  after_calls = all_called g.number cs handled_first
 
--- the calls to r after a write to a registration
-abbrev pub with_write : ℕ → ℕ → Call → List Call → List Call
-with_write n r call xs = xs ++ cond (nat_eq n r) (call ∷ []) []
-
-sent_one : (n r : ℕ) (call : Call) → sent_to r (record { reg = n; call = call } ∷ []) ≡ cond (nat_eq n r) (call ∷ []) []
-sent_one n r call = by (nat_eq n r) refl
-  where
-    by : (t : Bool) → nat_eq n r ≡ t → sent_to r (record { reg = n; call = call } ∷ []) ≡ cond t (call ∷ []) []
-    by true e = rw e refl
-    by false e = rw e refl
-
-ready_first : (K : Opening) (Q : History) (g : Registration) → registrations Q ≡ g ∷ [] → may_be_taken K Q g ≡ true → ready K Q ≡ Some g.number
-ready_first K Q g is able =
-    ap (λ (gs : List Registration). elim (find (may_be_taken K Q) gs) as (λ o. Option ℕ) [ None ↦ None | Some x ↦ Some x.number ]) is ∙ rw able refl
-
-module _ (K : Opening) (stopped : Bool) (g : Registration) (P : History) (v : ValueList) (queue : List ValueList) (cache : CacheMap) (now : ℕ) (answer : Answer) where
-  abbrev pub after_handle : History
-  after_handle = P ▸ entry.Handle 0 now (handle_answer K P now)
-
-  abbrev pub after_take : History
-  after_take = after_handle ▸ entry.Take 0 g.number (calls.Write v)
-
-  abbrev pub after_done : History
-  after_done = after_take ▸ entry.Done 0 g.number answer
-
-  pub calls_to-after_handle : Standing K stopped (g ∷ []) (v ∷ queue) cache P → IsWriter g → (r : ℕ) → calls_to K r after_handle ≡ with_write g.number r (calls.Write v) (calls_to K r P)
-  calls_to-after_handle s w r = rw (posts_next v queue now s, listens s w, sent_one g.number r (calls.Write v)) refl
-
-  pub calls_to-after_done : Standing K stopped (g ∷ []) (v ∷ queue) cache P → IsWriter g → (r : ℕ) → calls_to K r after_done ≡ with_write g.number r (calls.Write v) (calls_to K r P)
-  calls_to-after_done s w r = quiet _ ∙ quiet _ ∙ calls_to-after_handle s w r
-
-  own_calls : Standing K stopped (g ∷ []) (v ∷ queue) cache P → IsWriter g → calls_to K g.number after_handle ≡ calls_to K g.number P ++ calls.Write v ∷ []
-  own_calls s w = calls_to-after_handle s w g.number ∙ rw (same_number g.number) refl
-
-  one_pending : Standing K stopped (g ∷ []) (v ∷ queue) cache P → IsWriter g → pending K after_handle g.number ≡ 1
-  one_pending s w = rw (own_calls s w, s.taken g.number) (omega (arith, length-append (calls_to K g.number P) (calls.Write v ∷ [])))
-
-  pub ready_then : Standing K stopped (g ∷ []) (v ∷ queue) cache P → IsWriter g → ready K after_handle ≡ Some g.number
-  ready_then s w = ready_first K after_handle g s.registers (rw (w.plugged, s.unretired g.number, s.home g.number, one_pending s w) refl)
-
-  pub next_then : Standing K stopped (g ∷ []) (v ∷ queue) cache P → IsWriter g → next_call K after_handle g.number ≡ Some (calls.Write v)
-  next_then s w = rw (own_calls s w, s.taken g.number) (seam (calls_to K g.number P) (calls.Write v) [])
-
-  -- ---- the write is taken and answered
-
-  one_more_taken : (t : Bool) (n : ℕ) (xs : List Call) → n ≡ length xs
-      → cond t (n + 1) n ≡ length (xs ++ cond t (calls.Write v ∷ []) [])
-  one_more_taken true n xs e = rw e (omega (arith, length-append xs (calls.Write v ∷ [])))
-  one_more_taken false n xs e = e ∙ ap length (sym (quiet xs))
-
-  at_home : (t : Bool) (o : Option ℕ) → o ≡ None → cond t None (cond t (Some 0) o) ≡ None
-  at_home true o e = refl
-  at_home false o e = e
-
-  pub handles_written : Standing K stopped (g ∷ []) (v ∷ queue) cache P → IsWriter g → Standing K stopped (g ∷ []) queue (stored (set_of K.types v) v now cache) after_done
-  handles_written s w = record {
-    legal = (((s.legal, (refl, one_queued v queue s)), (ready_then s w, next_then s w)), rw (same_number g.number) refl);
-    is_so = s.is_so;
-    registers = s.registers;
-    unclosed = s.unclosed;
-    unretired = s.unretired;
-    home = λ r. at_home (nat_eq g.number r) (taken_by r P) (s.home r);
-    earlier = s.earlier ++ v ∷ [];
-    queued = s.queued ∙ sym (append_assoc s.earlier (v ∷ []) queue);
-    counted = ap (λ (n : ℕ). n + 1) s.counted ∙ one_more s.earlier v;
-    taken = λ r. one_more_taken (nat_eq g.number r) (takes r P) (calls_to K r P) (s.taken r) ∙ ap length (sym (calls_to-after_done s w r));
-    caches = stored_next v queue now s;
+  alone_before : IsAlone K g (calls_to K g.number P) [] P
+  alone_before = record {
+    registered = s.registers;
+    plugged = plugged;
+    unretired = s.unretired g.number;
+    home = s.home g.number;
+    calls = sym (append-nil (calls_to K g.number P));
+    taken = s.taken g.number;
   }
 
-  pub works_written : {O : History} {given : List Given} → Standing K stopped (g ∷ []) (v ∷ queue) cache P → IsWriter g → Works K IsAsked O given P
-      → Works K IsAsked O ((given ++ Now now ∷ []) ++ Answered answer ∷ []) after_done
-  works_written s w so_far = called (handled so_far (none_ready s) (one_queued v queue s) refl) (ready_then s w) (next_then s w)
+  next-are : next_calls K g P now ≡ calls_of cs
+  next-are = ap (λ (h : Handling). sent_to g.number h.posts) (handles-as v queue now s) ∙ sent_all K cache g v now ∙ are
+
+  alone_then : IsAlone K g (calls_to K g.number P) (calls_of cs) handled_first
+  alone_then =
+      let A : List Call → Type 0 = λ calls. IsAlone K g (calls_to K g.number P) calls handled_first in
+      subst A next-are (alone_handled K g (calls_to K g.number P) P now alone_before)
+
+  -- each call was taken
+  all_taken : (t : Bool) (r : ℕ) → nat_eq g.number r ≡ t → takes r after_calls ≡ length (calls_to K r after_calls)
+  all_taken true r is =
+      let same : g.number ≡ r = grind (arith, is) in
+      let alone = alone_after K g (calls_to K g.number P) cs handled_first alone_then in
+      let own : takes g.number after_calls ≡ length (calls_to K g.number after_calls) = alone.taken ∙ ap length (sym (alone.calls ∙ append-nil _)) in
+      let T : ℕ → Type 0 = λ n. takes n after_calls ≡ length (calls_to K n after_calls) in
+      subst T same own
+  all_taken false r is =
+      let none : sent_to r (next_handling K (cache_after K P) P now).posts ≡ [] =
+      ap (λ (h : Handling). sent_to r h.posts) (handles-as v queue now s) ∙ sent_elsewhere K cache g v now r is in
+      called-takes g.number cs handled_first r is
+      ∙ s.taken r
+      ∙ ap length (sym (called-calls g.number K cs handled_first r ∙ ap (λ (xs : List Call). calls_to K r P ++ xs) none ∙ quiet (calls_to K r P)))
+
+  pub handles_called : Standing K stopped (g ∷ []) queue (handling K cache (g ∷ []) v now).cache after_calls
+  handles_called = record {
+    legal = legal_after K g (calls_to K g.number P) cs handled_first alone_then (s.legal, (refl, one_queued v queue s));
+    is_so = called-stopped g.number cs handled_first ∙ s.is_so;
+    registers = called-registrations g.number cs handled_first ∙ s.registers;
+    unclosed = λ r. called-closed g.number cs handled_first r ∙ s.unclosed r;
+    unretired = λ r. called-retired g.number cs handled_first r ∙ s.unretired r;
+    home = λ r. called-home g.number cs handled_first s.home r;
+    earlier = s.earlier ++ v ∷ [];
+    queued = called-kept g.number cs handled_first ∙ s.queued ∙ sym (append_assoc s.earlier (v ∷ []) queue);
+    counted = called-handles g.number cs handled_first ∙ ap (λ (n : ℕ). n + 1) s.counted ∙ one_more s.earlier v;
+    taken = λ r. all_taken (nat_eq g.number r) r refl;
+    caches = called-cache g.number K cs handled_first ∙ ap (λ (h : Handling). h.cache) (handles-as v queue now s);
+  }
+
+  pub works_called : {O : History} {given : List Given} → Works K IsAsked O given P
+      → Works K IsAsked O ((given ++ Now now ∷ []) ++ answers_of cs) after_calls
+  works_called {O = O} {given = given} so_far =
+      works_handled K g IsAsked O (calls_to K g.number P) cs P now given (Now now ∷ []) alone_before next-are so_far (none_ready s) (one_queued v queue s) refl
 
 -- ---- a query
 

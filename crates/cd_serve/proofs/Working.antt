@@ -1,121 +1,179 @@
 -- The steps of a daemon that works on a line.
-use Rattle.cd_cache.specs.Cache.{CacheMap}
-use Rattle.cd_daemon.specs.Answers.{handle_answer}
-use Rattle.cd_daemon.specs.Handling.{set_of, stored}
-use Rattle.cd_history.specs.History.{History, ◌▸◌}
-use Rattle.cd_history.specs.Registrations.{Registration}
-use Rattle.cd_history.specs.declared.entry.Entry.TheVariants as entry
+use Rattle.cd_chain.specs.declared.data.Action.TheVariants as actions
+use Rattle.cd_chain.specs.declared.data.Action.{Action}
+use Rattle.cd_daemon.specs.Handling.{set_of}
+use Rattle.cd_daemon.specs.declared.Opening.{Opening}
+use Rattle.cd_history.specs.History.{History}
 use Rattle.cd_history.specs.declared.given.Given.TheVariants.{Answered, Now, Word}
 use Rattle.cd_history.specs.declared.given.Given.{Given}
 use Rattle.cd_io.specs.Told.{dice_after}
 use Rattle.cd_registry.specs.declared.calls.Answer.{Answer}
+use Rattle.cd_registry.specs.declared.calls.AnsweredCall.{AnsweredCall}
 use Rattle.cd_registry.specs.declared.calls.Call.TheVariants as calls
-use Rattle.cd_serve.proofs.Gifts.{gave_answer, gave_moment, one_more_word}
-use Rattle.cd_serve.proofs.Shelves.{run_handles_unwritten, run_handles_written}
-use Rattle.cd_serve.proofs.Steps.{after_done, none_ready, one_queued, works_written}
-use Rattle.cd_serve.specs.Working.Outside.{GaveUpTo, called_first}
-use Rattle.cd_serve.specs.Working.Progress.{IsWorking, Rolled, Seen, WasCalled, with_answer, with_list, with_moment, with_word}
-use Rattle.cd_serve.specs.Working.Standing.{AreOf, IsWriter, RunsOn, Standing, Writes, registration_of}
-use Rattle.cd_transcript.specs.LineRuns.{OnShelf, handled, returned}
+use Rattle.cd_registry.specs.declared.calls.Call.{Call}
+use Rattle.cd_registry.specs.declared.plug.PlugTells.{PlugTells}
+use Rattle.cd_serve.proofs.Gifts.{gave_answers, gave_moment, one_more_word}
+use Rattle.cd_serve.proofs.Performing.{flat_map-append}
+use Rattle.cd_serve.proofs.Shelves.{after_handling, run_handles, told-append, uncalled}
+use Rattle.cd_serve.specs.Working.Outside.{GaveUpTo, answers_given, called_first, called_in_order}
+use Rattle.cd_serve.specs.Working.Passing.{Passage, calls_asked, calls_by, is_asked, passage_of, writer_of}
+use Rattle.cd_serve.specs.Working.Progress.{HandlesOne, IsWorking, Performed, Rolled, Seen, WasCalled, passage_at, with_answer, with_cache, with_calls, with_moment, with_word}
+use Rattle.cd_transcript.specs.LineRuns.{OnShelf}
 use Rattle.cd_value.specs.declared.data.ValueList.{ValueList}
 use Rattle.std.proofs.Common.{Bool, Err, IfSome, List, Ok, OnOk, Option, Result, [], ap, append_assoc, arith, false, inl, inr, length-append, map, refl, subst, sym, true, ℕ, ◌++◌, ◌+◌, ◌∙◌, ◌∷◌, ◌≡◌}
 use Rattle.std.proofs.lemmas.List.{append-nil, map-append}
 use Rattle.std.specs.Option.{option_map}
 
-module _ (begun : Seen) (start : History) (before : List Given) (list : ValueList) (queue : List ValueList) (seen : Seen) (now : ℕ) where
-  -- the cache is made with the types that the daemon knows
-  cache_same : seen.opening ≡ begun.opening → stored (set_of seen.opening.types list) list now seen.cache ≡ stored (set_of begun.opening.types list) list now seen.cache
-  cache_same e = rw e refl
+-- ---- a list is handled
 
-  -- nobody writes the list
-  pub handled_unwritten : IsWorking begun start before (list ∷ queue) seen → IfSome seen.pairs.clock (λ pair. now ≡ pair.0) → seen.writer ≡ false
-      → IsWorking begun start before queue (with_list list now (with_moment now seen))
-  handled_unwritten w at unwritten = record {
-    past = w.past ▸ entry.Handle 0 now (handle_answer begun.opening w.past now);
-    opening = w.opening;
-    runs = let R : CacheMap → Type 0 = λ cache. RunsOn begun.opening begun.shelf seen.shelf seen.writer queue cache (w.past ▸ entry.Handle 0 now (handle_answer begun.opening w.past now)) in
-        subst R (sym (cache_same w.opening)) (let F : Bool → Type 0 = λ writer. RunsOn begun.opening begun.shelf seen.shelf writer queue (stored (set_of begun.opening.types list) list now seen.cache) (w.past ▸ entry.Handle 0 now (handle_answer begun.opening w.past now)) in
-        subst F (sym unwritten) (run_handles_unwritten list now (let G : Bool → Type 0 = λ writer. RunsOn begun.opening begun.shelf seen.shelf writer (list ∷ queue) seen.cache w.past in subst G unwritten w.runs)));
-    given = w.given ++ Now now ∷ [];
-    follows = ap (λ (g : List Given). g ++ Now now ∷ []) w.follows ∙ append_assoc before w.given (Now now ∷ []);
-    works = handled w.works (none_ready w.runs.standing) (one_queued list queue w.runs.standing) refl;
-    gave = gave_moment begun.pairs seen.pairs seen.given now w.gave at;
-  }
+module _ (begun : Seen) (start : History) (before : List Given) (list : ValueList) (queue : List ValueList) (seen : Seen) (now : ℕ) (cs : List AnsweredCall) where
+  -- what it asks for and leaves, with what was in force at first
+  abbrev passed : Opening → Passage
+  passed K = passage_of (set_of K.types list) K.rules seen.cache list now
 
-  -- a writer has a plug-in on the shelf, which is registered
-  written_by : (opened : List OnShelf) (regs : List Registration) → AreOf opened regs → Writes true regs
-      → (plug : OnShelf) × (opened ≡ plug ∷ []) × (regs ≡ registration_of plug ∷ []) × IsWriter (registration_of plug)
-  written_by [] regs are writes = let W : List Registration → Type 0 = Writes true in absurd (subst W are writes)
-  written_by (plug ∷ []) regs (inl are) writes = let W : List Registration → Type 0 = Writes true in absurd (subst W are writes)
-  written_by (plug ∷ []) regs (inr are) writes = let W : List Registration → Type 0 = Writes true in (plug, refl, are, subst W are writes)
-  written_by (plug ∷ (next ∷ plugs)) regs are writes = absurd are
-
-  -- it is written, and the plug-in answers
-  pub handled_written : (answer : Answer) → IsWorking begun start before (list ∷ queue) seen → IfSome seen.pairs.clock (λ pair. now ≡ pair.0) → seen.writer ≡ true
-      → IsWorking begun start before queue (with_answer (calls.Write list) answer (with_list list now (with_moment now seen)))
-  handled_written answer w at written =
-      let r : RunsOn begun.opening begun.shelf seen.shelf true (list ∷ queue) seen.cache w.past =
-      (let G : Bool → Type 0 = λ writer. RunsOn begun.opening begun.shelf seen.shelf writer (list ∷ queue) seen.cache w.past in subst G written w.runs) in
-      let by = written_by begun.shelf r.regs r.of_shelf r.writes in
-      let plug : OnShelf = by.0 in
-      let standing : Standing begun.opening false (registration_of plug ∷ []) (list ∷ queue) seen.cache w.past =
-      (let S : List Registration → Type 0 = λ regs. Standing begun.opening false regs (list ∷ queue) seen.cache w.past in subst S by.2 r.standing) in
-      let one : RunsOn begun.opening (plug ∷ []) seen.shelf true (list ∷ queue) seen.cache w.past =
-      (let O : List OnShelf → Type 0 = λ opened. RunsOn begun.opening opened seen.shelf true (list ∷ queue) seen.cache w.past in subst O by.1 r) in
-      let Q : History = after_done begun.opening false (registration_of plug) w.past list queue seen.cache now answer in
-      let then_runs : RunsOn begun.opening (plug ∷ []) (called_first (calls.Write list) answer seen.shelf) true queue (stored (set_of begun.opening.types list) list now seen.cache) Q =
-      run_handles_written begun.opening plug seen.shelf queue seen.cache w.past list now answer one standing by.3 in
+  -- it passed the chains and the cache, and the calls that it asks for were made
+  handled_with : IsWorking begun start before (list ∷ queue) seen → IfSome seen.pairs.clock (λ pair. now ≡ pair.0)
+      → map (λ (c : AnsweredCall). c.call) cs ≡ calls_asked (writer_of seen.writer seen.shelf) (passed begun.opening).asked
+      → IsWorking begun start before queue (with_calls cs (with_cache (passed begun.opening).cache (with_moment now seen)))
+  handled_with w at made =
+      let then = run_handles list now cs w.runs made in
       record {
-        past = Q;
+        past = after_handling begun.opening now cs w.past;
         opening = w.opening;
-        runs = (let R : CacheMap → Type 0 = λ cache. RunsOn begun.opening begun.shelf (called_first (calls.Write list) answer seen.shelf) seen.writer queue cache Q in
-            subst R (sym (cache_same w.opening)) (let F : Bool → Type 0 = λ writer. RunsOn begun.opening begun.shelf (called_first (calls.Write list) answer seen.shelf) writer queue (stored (set_of begun.opening.types list) list now seen.cache) Q in
-            subst F (sym written) (let O : List OnShelf → Type 0 = λ opened. RunsOn begun.opening opened (called_first (calls.Write list) answer seen.shelf) true queue (stored (set_of begun.opening.types list) list now seen.cache) Q in subst O (sym by.1) then_runs)));
-        given = (w.given ++ Now now ∷ []) ++ Answered answer ∷ [];
-        follows = ap (λ (g : List Given). (g ++ Now now ∷ []) ++ Answered answer ∷ []) w.follows
-            ∙ ap (λ (g : List Given). g ++ Answered answer ∷ []) (append_assoc before w.given (Now now ∷ []))
-            ∙ append_assoc before (w.given ++ Now now ∷ []) (Answered answer ∷ []);
-        works = works_written begun.opening false (registration_of plug) w.past list queue seen.cache now answer standing by.3 w.works;
-        gave = gave_answer _ _ _ answer (gave_moment begun.pairs seen.pairs seen.given now w.gave at);
+        runs = then.runs;
+        given = (w.given ++ Now now ∷ []) ++ answers_given cs;
+        follows = ap (λ (g : List Given). (g ++ Now now ∷ []) ++ answers_given cs) w.follows
+            ∙ ap (λ (g : List Given). g ++ answers_given cs) (append_assoc before w.given (Now now ∷ []))
+            ∙ append_assoc before (w.given ++ Now now ∷ []) (answers_given cs);
+        works = then.works start w.given w.works;
+        gave = gave_answers _ _ _ cs (gave_moment begun.pairs seen.pairs seen.given now w.gave at);
       }
 
-  -- a writer has something on the shelf
-  pub never_unwritten : IsWorking begun start before (list ∷ queue) seen → seen.writer ≡ true → seen.shelf ≡ [] → ⊥
-  never_unwritten w written empty =
-      let r : RunsOn begun.opening begun.shelf seen.shelf true (list ∷ queue) seen.cache w.past =
-      (let G : Bool → Type 0 = λ writer. RunsOn begun.opening begun.shelf seen.shelf writer (list ∷ queue) seen.cache w.past in subst G written w.runs) in
-      let by = written_by begun.shelf r.regs r.of_shelf r.writes in
-      let same : seen.shelf ≡ returned w.past (by.0 ∷ []) = r.back ∙ ap (returned w.past) by.1 in
-      let e : [] ≡ returned w.past (by.0 ∷ []) = sym empty ∙ same in
-      cc
+  pub handled_as : IsWorking begun start before (list ∷ queue) seen → IfSome seen.pairs.clock (λ pair. now ≡ pair.0)
+      → map (λ (c : AnsweredCall). c.call) cs ≡ calls_asked (writer_of seen.writer seen.shelf) (passed seen.opening).asked
+      → IsWorking begun start before queue (with_calls cs (with_cache (passed seen.opening).cache (with_moment now seen)))
+  handled_as w at made =
+      let M : Opening → Type 0 = λ K. map (λ (c : AnsweredCall). c.call) cs ≡ calls_asked (writer_of seen.writer seen.shelf) (passed K).asked in
+      let W : Opening → Type 0 = λ K. IsWorking begun start before queue (with_calls cs (with_cache (passed K).cache (with_moment now seen))) in
+      subst W (sym w.opening) (handled_with w at (subst M w.opening made))
 
 pub on_ok : {T E : Type 0} {A B : Type 0} (r : Result T E) → (A → B) → OnOk r A → OnOk r B
 on_ok (Ok x) f a = f a
 on_ok (Err e) f a = tt
 
--- a list was handled, whoever writes it
-module _ (old at_moment cached : Seen) (list : ValueList) (now : ℕ) (asked : IfSome old.pairs.clock (λ pair. now ≡ pair.0)) (first : at_moment ≡ with_moment now old) (second : cached ≡ with_list list now at_moment) where
-  kept_writer : cached.writer ≡ old.writer
-  kept_writer = ap (λ (s : Seen). s.writer) second ∙ ap (λ (s : Seen). s.writer) first
+-- ---- actions are performed
 
-  kept_shelf : cached.shelf ≡ old.shelf
-  kept_shelf = ap (λ (s : Seen). s.shelf) second ∙ ap (λ (s : Seen). s.shelf) first
+-- calls after calls
+called-append : (xs ys : List AnsweredCall) (shelf : List OnShelf) → called_in_order ys (called_in_order xs shelf) ≡ called_in_order (xs ++ ys) shelf
+called-append xs ys [] = refl
+called-append xs ys (plug ∷ plugs) = ap (λ (t : PlugTells). let row : OnShelf = record plug { tells = t } in row ∷ plugs) (sym (told-append xs ys plug.tells))
 
-  then_is : cached ≡ with_list list now (with_moment now old)
-  then_is = second ∙ ap (with_list list now) first
+calls-append : (xs ys : List AnsweredCall) (seen : Seen) → with_calls ys (with_calls xs seen) ≡ with_calls (xs ++ ys) seen
+calls-append xs ys seen =
+    ap (λ (shelf : List OnShelf). let s : Seen = record seen { shelf = shelf; given = (seen.given ++ answers_given xs) ++ answers_given ys } in s) (called-append xs ys seen.shelf)
+    ∙ ap (λ (given : List Given). let s : Seen = record seen { shelf = called_in_order (xs ++ ys) seen.shelf; given = given } in s)
+    (append_assoc seen.given (answers_given xs) (answers_given ys) ∙ ap (λ (given : List Given). seen.given ++ given) (sym (map-append (λ (c : AnsweredCall). Answered c.answer) xs ys)))
 
-  pub works_unwritten : cached.writer ≡ false → (begun : Seen) (start : History) (before : List Given) (queue : List ValueList)
-      → IsWorking begun start before (list ∷ queue) old → IsWorking begun start before queue cached
-  works_unwritten not begun start before queue w =
-      let W : Seen → Type 0 = IsWorking begun start before queue in
-      subst W (sym then_is) (handled_unwritten begun start before list queue old now w asked (sym kept_writer ∙ not))
+no_calls : (seen : Seen) → seen ≡ with_calls [] seen
+no_calls seen =
+    ap (λ (shelf : List OnShelf). let s : Seen = record seen { shelf = shelf } in s) (sym (uncalled seen.shelf))
+    ∙ ap (λ (given : List Given). let s : Seen = record seen { shelf = called_in_order [] seen.shelf; given = given } in s) (sym (append-nil seen.given))
 
-  pub works_called : (new : Seen) → cached.writer ≡ true → WasCalled (calls.Write list) cached new → (begun : Seen) (start : History) (before : List Given) (queue : List ValueList)
-      → IsWorking begun start before (list ∷ queue) old → IsWorking begun start before queue new
-  works_called new is (inl empty) begun start before queue w = absurd (never_unwritten begun start before list queue old now w (sym kept_writer ∙ is) (sym kept_shelf ∙ empty.0))
-  works_called new is (inr called) begun start before queue w =
-      let W : Seen → Type 0 = IsWorking begun start before queue in
-      subst W (sym (called.1 ∙ ap (with_answer (calls.Write list) called.0) then_is)) (handled_written begun start before list queue old now called.0 w asked (sym kept_writer ∙ is))
+one_call : (call : Call) (answer : Answer) (seen : Seen) → with_answer call answer seen ≡ with_calls (record { call = call; answer = answer } ∷ []) seen
+one_call call answer seen = ap (λ (shelf : List OnShelf). let s : Seen = record seen { shelf = shelf; given = seen.given ++ Answered answer ∷ [] } in s) (by seen.shelf)
+  where
+    by : (shelf : List OnShelf) → called_first call answer shelf ≡ called_in_order (record { call = call; answer = answer } ∷ []) shelf
+    by [] = refl
+    by (plug ∷ plugs) = refl
+
+-- the writer stays the same
+same_writer : (writer : Bool) (cs : List AnsweredCall) (shelf : List OnShelf) → writer_of writer (called_in_order cs shelf) ≡ writer_of writer shelf
+same_writer true cs [] = refl
+same_writer true cs (plug ∷ plugs) = refl
+same_writer false cs shelf = refl
+
+-- nothing is asked for
+pub performed_nothing : (seen : Seen) → Performed [] seen seen
+performed_nothing seen = record { answered = []; calls = refl; seen = no_calls seen }
+
+-- actions after actions
+pub performed_more : (xs ys : List Action) (old mid new : Seen) → Performed xs old mid → Performed ys mid new → Performed (xs ++ ys) old new
+performed_more xs ys old mid new first then = record {
+  answered = first.answered ++ then.answered;
+  calls = map-append (λ (c : AnsweredCall). c.call) first.answered then.answered
+      ∙ ap (λ (cs : List Call). cs ++ map (λ (c : AnsweredCall). c.call) then.answered) first.calls
+      ∙ ap (λ (cs : List Call). calls_asked (writer_of old.writer old.shelf) xs ++ cs) (then.calls ∙ ap (λ (writer : Option (List ℕ)). calls_asked writer ys) writer_same)
+      ∙ sym (flat_map-append (calls_by (writer_of old.writer old.shelf)) xs ys);
+  seen = then.seen ∙ ap (with_calls then.answered) first.seen ∙ calls-append first.answered then.answered old;
+}
+  where
+    writer_same : writer_of mid.writer mid.shelf ≡ writer_of old.writer old.shelf
+    writer_same = ap (λ (s : Seen). writer_of s.writer s.shelf) first.seen ∙ same_writer old.writer first.answered old.shelf
+
+-- one after the other
+pub performed_turn : (action : Action) (rest more : List Action) (old mid new : Seen) → rest ≡ action ∷ more → Performed (action ∷ []) old mid → Performed more mid new → Performed rest old new
+performed_turn action rest more old mid new is first then =
+    let P : List Action → Type 0 = λ xs. Performed xs old new in
+    subst P (sym is) (performed_more (action ∷ []) more old mid new first then)
+
+-- .. until none is left
+pub performed_end : (asked all rest : List Action) (old new : Seen) → ((last : Seen) → Performed rest new last → Performed all old last) → all ≡ asked → rest ≡ [] → Performed asked old new
+performed_end asked all rest old new then same none =
+    let R : List Action → Type 0 = λ xs. Performed xs new new in
+    let A : List Action → Type 0 = λ xs. Performed xs old new in
+    subst A same (then new (subst R (sym none) (performed_nothing new)))
+
+-- a write for which the plug-in isn't asked
+pub performed_unasked : (names : List (List ℕ)) (list : ValueList) (seen : Seen) (t : Bool) → t ≡ is_asked (writer_of seen.writer seen.shelf) names → t ≡ false
+    → Performed (actions.Write names list ∷ []) seen seen
+performed_unasked names list seen t asked is = record { answered = []; calls = none; seen = no_calls seen }
+  where
+    none : [] ≡ calls_asked (writer_of seen.writer seen.shelf) (actions.Write names list ∷ [])
+    none = rw (sym asked ∙ is) refl
+
+nobody_asked : (writer : Bool) (names : List (List ℕ)) → true ≡ is_asked (writer_of writer []) names → ⊥
+nobody_asked true names e = let never : true ≡ false = e in absurd (cc)
+nobody_asked false names e = let never : true ≡ false = e in absurd (cc)
+
+-- .. and one for which it is, and is called
+pub performed_call : (names : List (List ℕ)) (list : ValueList) (old new : Seen) (t : Bool) → t ≡ is_asked (writer_of old.writer old.shelf) names → t ≡ true
+    → WasCalled (calls.Write list) old new → Performed (actions.Write names list ∷ []) old new
+performed_call names list old new t asked is (inl none) =
+    let A : List OnShelf → Type 0 = λ shelf. true ≡ is_asked (writer_of old.writer shelf) names in
+    absurd (nobody_asked old.writer names (subst A none.0 (sym is ∙ asked)))
+performed_call names list old new t asked is (inr called) = record {
+  answered = record { call = calls.Write list; answer = called.0 } ∷ [];
+  calls = rw (sym asked ∙ is) refl;
+  seen = called.1 ∙ one_call (calls.Write list) called.0 old;
+}
+
+-- ---- .. and so a list was handled
+
+module _ (old at_moment passed mid new : Seen) (list : ValueList) (now : ℕ) (before behind : List Action) (asked_at : IfSome old.pairs.clock (λ pair. now ≡ pair.0))
+    (first : at_moment ≡ with_moment now old)
+    (second : passed ≡ with_cache (passage_at list now at_moment).cache at_moment) (asks : before ++ behind ≡ (passage_at list now at_moment).asked)
+    (third : Performed before passed mid) (fourth : Performed behind mid new) where
+  all : Performed (before ++ behind) passed new
+  all = performed_more before behind passed mid new third fourth
+
+  passed_is : passed ≡ with_cache (passage_at list now old).cache (with_moment now old)
+  passed_is = second ∙ ap (λ (s : Seen). with_cache (passage_at list now s).cache s) first
+
+  asks_is : before ++ behind ≡ (passage_at list now old).asked
+  asks_is = asks ∙ ap (λ (s : Seen). (passage_at list now s).asked) first
+
+  made : map (λ (c : AnsweredCall). c.call) all.answered ≡ calls_asked (writer_of old.writer old.shelf) (passage_at list now old).asked
+  made = all.calls
+      ∙ ap (λ (s : Seen). calls_asked (writer_of s.writer s.shelf) (before ++ behind)) passed_is
+      ∙ ap (λ (xs : List Action). calls_asked (writer_of old.writer old.shelf) xs) asks_is
+
+  new_is : new ≡ with_calls all.answered (with_cache (passage_at list now old).cache (with_moment now old))
+  new_is = all.seen ∙ ap (λ (s : Seen). with_calls all.answered s) passed_is
+
+  pub handles_one : HandlesOne list old new
+  handles_one begun start given queue w =
+      let W : Seen → Type 0 = IsWorking begun start given queue in
+      subst W (sym new_is) (handled_as begun start given list queue old now all.answered w asked_at made)
 
 pub rolled_nothing : (old : Seen) → Rolled 0 old old
 rolled_nothing old = record { words = []; many = refl; gave = refl; seen = seen_same }

@@ -1,15 +1,22 @@
 -- What is in force in a run, by what the files of its command come to.
 use Rattle.cd_command.specs.Command.{command}
 use Rattle.cd_command.specs.declared.command.Command.{Command}
+use Rattle.cd_conf.specs.declared.item.Item.{Item}
 use Rattle.cd_daemon.specs.declared.Opening.{Opening}
+use Rattle.cd_daemon.specs.declared.Rules.{Rules}
 use Rattle.cd_io.specs.Causes.{Counts, Rose}
 use Rattle.cd_io.specs.World.{FileTells, WorldTells}
-use Rattle.cd_opening.specs.Opened.{ComesTo, IsDefault}
+use Rattle.cd_opening.specs.File.{HasConfFault, HasItems}
+use Rattle.cd_opening.specs.Opened.{ComesTo, HasSettingsFault, HasTypesFault, IsDefault}
 use Rattle.cd_opening.specs.declared.fault.OpeningFault.TheVariants as faults
 use Rattle.cd_opening.specs.declared.fault.OpeningFault.{OpeningFault}
 use Rattle.cd_opening.specs.declared.opening.Opened.{Opened}
 use Rattle.cd_serve.specs.declared.end.End.TheVariants as ends
 use Rattle.cd_serve.specs.declared.end.End.{End}
+use Rattle.cd_settings.specs.BigPatterns.{IsTooBig}
+use Rattle.cd_settings.specs.Settings.{settings_of}
+use Rattle.cd_settings.specs.declared.fault.SettingsFault.{SettingsFault}
+use Rattle.cd_settings.specs.declared.settings.Settings.{Settings}
 use Rattle.std.specs.List.{list_any}
 use Rattle.std.specs.Prelude.{Bool, Err, List, None, Ok, Option, Result, Some, false, true, ℕ, ◌≡◌}
 use Rattle.std.specs.Str.{bytes_eq}
@@ -21,9 +28,14 @@ FilesComeTo (Some path) files read = ComesTo path files read
 FilesComeTo None files (Ok found) = IsDefault found
 FilesComeTo None files (Err fault) = fault ≡ faults.Memory
 
--- the types and the settings of the whole daemon
+-- the filter chains
+abbrev pub rules_of : Settings → Rules
+rules_of settings = record { chains = settings.chains; pre = settings.pre; post = settings.post }
+
+-- the types, the settings of the whole daemon, and the filter chains
 abbrev pub opening_of : Opened → Opening
-opening_of found = record { types = found.types; globals = found.settings.globals }
+opening_of found =
+    record { types = found.types; globals = found.settings.globals; rules = rules_of found.settings }
 
 -- whether a plug-in of the shelf is loaded, by its name: without a file each is, with one those that it loads
 abbrev pub loads : Option (List ℕ) → List (List ℕ) → List ℕ → Bool
@@ -86,14 +98,26 @@ AreAccepted None files = Unit {0}
 AreAccepted (Some path) None = ⊥
 AreAccepted (Some path) (Some files) = (found : Opened) × ComesTo path (Some files) (Ok found)
 
--- a fault of a text
-abbrev pub IsOfText : OpeningFault → Type 0
-IsOfText (faults.Conf fault) = Unit {0}
-IsOfText (faults.Types path fault) = Unit {0}
-IsOfText (faults.Settings fault) = Unit {0}
-IsOfText _ = ⊥
+-- the items of the file have this first fault, its types files none
+pub record HasFirst (path : List ℕ) (files : List FileTells) (fault : SettingsFault) : Type 0 where
+  pub refused : HasSettingsFault path (Some files) fault
+  pub first : settings_of refused.items ≡ Err fault
 
 -- the world tells files whose texts have this first fault
 abbrev pub AreRefused : Option (List ℕ) → Option (List FileTells) → OpeningFault → Type 0
-AreRefused (Some path) (Some files) fault = IsOfText fault × ComesTo path (Some files) (Err fault)
-AreRefused _ _ fault = ⊥
+AreRefused (Some path) (Some files) (faults.Conf fault) = HasConfFault path (Some files) fault
+AreRefused (Some path) (Some files) (faults.Types at fault) = HasTypesFault path (Some files) (faults.Types at fault)
+AreRefused (Some path) (Some files) (faults.Settings fault) = HasFirst path files fault
+AreRefused _ _ _ = ⊥
+
+-- a bad pattern at the line of an option whose text is a pattern: it may be too big when it is compiled
+pub record HasBigPattern (path : List ℕ) (files : Option (List FileTells)) (fault : SettingsFault) : Type 0 where
+  pub items : List Item
+  pub read : HasItems path files items
+  pub big : IsTooBig items fault
+
+-- the ends that no text decides
+abbrev pub IsFree : Option (List ℕ) → Option (List FileTells) → End → Type 0
+IsFree file files ends.Memory = Unit {0}
+IsFree (Some path) files (ends.SettingsFault fault) = HasBigPattern path files fault
+IsFree file files _ = ⊥

@@ -1,4 +1,5 @@
 -- How far a run has come: words of private contracts and of proofs. No public clause cites them.
 pub mod Outside
+pub mod Passing
 pub mod Standing
 pub mod Progress

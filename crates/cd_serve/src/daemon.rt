@@ -4,9 +4,10 @@ ghost use Rattle.cd_daemon.specs.Answers.{found_in, source_names};
 ghost use Rattle.cd_dialogue.specs.declared.server.Next.TheVariants as nexts;
 ghost use Rattle.cd_history.specs.History.{History};
 ghost use Rattle.cd_history.specs.declared.given.Given.{Given};
+ghost use Rattle.cd_serve.specs.Working.Passing.{asked_behind, asked_by, is_asked, writer_of};
 ghost use Rattle.cd_serve.specs.Working.Progress.{HandlesAll, HandlesOne, IsNotBlank, IsServed, IsWorking, KeepsPlaces};
-ghost use Rattle.cd_serve.specs.Working.Progress.{Obeys, Puts, Rolled, Seen, Serves, WasCalled, seen_of, with_list};
-ghost use Rattle.cd_serve.specs.Working.Progress.{with_moment, with_word};
+ghost use Rattle.cd_serve.specs.Working.Progress.{Obeys, Performed, Puts, Rolled, Seen, Serves, WasCalled, passage_at};
+ghost use Rattle.cd_serve.specs.Working.Progress.{seen_of, with_cache, with_moment, with_word};
 ghost use Rattle.cd_sock.specs.Faults.{line_fault};
 ghost use Rattle.cd_sock.specs.Lines.{content};
 ghost use Rattle.cd_transcript.specs.Transcripts.{found_reply};
@@ -14,7 +15,10 @@ ghost use Rattle.cd_value.specs.declared.data.ValueList.{ValueList};
 ghost use Rattle.std.specs.Prelude.{IfOk, IfSome, List, OnOk, Some, [], false, map, ℕ, ◌∷◌, ◌≡◌};
 
 use crate::outside::Outside;
+use crate::passing::{Behind, Passed, pass};
 use cd_cache::{Cache, CacheEntry};
+use cd_chain::{Action, Actions};
+use cd_daemon::Rules;
 use cd_dialogue::{Next, Response, Server};
 use cd_globals::Globals;
 use cd_history::{Given, Givens};
@@ -24,12 +28,14 @@ use cd_types::TypesDb;
 use cd_value::{DataSource, Lists, Memory, Names, Text, TryCopy, ValueList};
 use std::alloc::Global;
 
-/// The daemon: the types that it knows, the settings of the whole daemon, what it asks of the outside, whether the
-/// first plug-in there is registered as a writer, the value cache, and what the outside gave so far.
+/// The daemon: the types that it knows, the settings of the whole daemon, the filter chains, what it asks of the
+/// outside, whether the first plug-in there is registered as a writer, the value cache, and what the outside gave so
+/// far.
 #[derive(Drop)]
 pub struct Daemon<O> {
     pub types: TypesDb,
     pub globals: Globals,
+    pub rules: Rules,
     pub outside: O,
     pub writer: bool,
     pub cache: Cache,
@@ -76,18 +82,19 @@ impl<O: Outside> Daemon<O> {
         Ok(())
     }
 
-    /// Puts a list of a known type into the cache.
-    fn store(&mut self, alloc: Global, list: &ValueList, now: u64) -> Result<(), Memory>
-        ensures ok { OnOk result (seen_of O.outside_pairs O.outside_shelf self.new
-            ≡ with_list list.now now (seen_of O.outside_pairs O.outside_shelf self.old)) }
+    /// Puts a list through the filter chains and the cache; one of an unknown type is left alone.
+    fn pass(&mut self, alloc: Global, list: ValueList, now: u64) -> Result<Passed, Memory>
+        ensures asked { IfOk result (λ passed. asked_by passed ≡ (passage_at list now
+            (seen_of O.outside_pairs O.outside_shelf self.old)).asked) }
+        ensures cache { OnOk result (seen_of O.outside_pairs O.outside_shelf self.new
+            ≡ with_cache (passage_at list now
+            (seen_of O.outside_pairs O.outside_shelf self.old)).cache
+            (seen_of O.outside_pairs O.outside_shelf self.old)) }
         ensures back { KeepsPlaces O.outside_shelf self.old self.new }
     {
         match self.types.get(list.id.type_name.as_str()) {
-            Some(set) => {
-                self.cache.update(alloc, list, set, now)?;
-                Ok(())
-            }
-            None => Ok(()),
+            Some(set) => pass(alloc, &mut self.rules, &mut self.cache, set, list, now),
+            None => Ok(Passed::nothing(alloc)),
         }
     }
 
@@ -107,7 +114,69 @@ impl<O: Outside> Daemon<O> {
         }
     }
 
-    /// Handles a list of the queue: it comes to the cache, and is written where a writer is registered.
+    /// Whether a write with these names goes to the first plug-in.
+    fn is_asked(&self, names: &Names) -> bool
+        ensures { result ≡ is_asked
+            (writer_of self.now.writer (O.outside_shelf self.now.outside)) names.now }
+    {
+        self.writer && self.outside.is_asked(names)
+    }
+
+    /// Writes a list to the writers of these names, or to all where there is no name. The first plug-in is called where
+    /// it is one of them.
+    fn write(&mut self, names: &Names, list: ValueList) -> Result<(), Memory>
+        ensures ok { OnOk result (Performed (Action.Write names.now list ∷ [])
+            (seen_of O.outside_pairs O.outside_shelf self.old)
+            (seen_of O.outside_pairs O.outside_shelf self.new)) }
+        ensures back { KeepsPlaces O.outside_shelf self.old self.new }
+    {
+        if self.is_asked(names) {
+            self.call(&Call::Write(list))
+        } else {
+            Ok(())
+        }
+    }
+
+    /// Performs an action. A notification calls nobody yet.
+    fn perform(&mut self, action: Action) -> Result<(), Memory>
+        ensures ok { OnOk result (Performed (action ∷ [])
+            (seen_of O.outside_pairs O.outside_shelf self.old)
+            (seen_of O.outside_pairs O.outside_shelf self.new)) }
+        ensures back { KeepsPlaces O.outside_shelf self.old self.new }
+    {
+        match action {
+            Action::Write { names, list } => self.write(&names, list),
+            Action::Notify(_) => Ok(()),
+        }
+    }
+
+    /// Performs actions, in order.
+    fn perform_all(&mut self, asked: Actions) -> Result<(), Memory>
+        ensures ok { OnOk result (Performed asked
+            (seen_of O.outside_pairs O.outside_shelf self.old)
+            (seen_of O.outside_pairs O.outside_shelf self.new)) }
+        ensures back { KeepsPlaces O.outside_shelf self.old self.new }
+    {
+        for action in asked.into_vec() {
+            self.perform(action)?;
+        }
+        Ok(())
+    }
+
+    /// Performs what is asked for behind the cache.
+    fn perform_behind(&mut self, alloc: Global, behind: Behind) -> Result<(), Memory>
+        ensures ok { OnOk result (Performed (asked_behind behind)
+            (seen_of O.outside_pairs O.outside_shelf self.old)
+            (seen_of O.outside_pairs O.outside_shelf self.new)) }
+        ensures back { KeepsPlaces O.outside_shelf self.old self.new }
+    {
+        match behind {
+            Behind::Asked(asked) => self.perform_all(asked),
+            Behind::ToAll(list) => self.write(&Names::new(alloc), list),
+        }
+    }
+
+    /// Handles a list of the queue: it passes the filter chains and the cache, and what that asks for is performed.
     fn handle(&mut self, alloc: Global, list: ValueList) -> Result<(), Memory>
         ensures ok { OnOk result (HandlesOne list
             (seen_of O.outside_pairs O.outside_shelf self.old)
@@ -115,12 +184,9 @@ impl<O: Outside> Daemon<O> {
         ensures back { KeepsPlaces O.outside_shelf self.old self.new }
     {
         let now = self.moment()?;
-        self.store(alloc, &list, now)?;
-        if self.writer {
-            self.call(&Call::Write(list))
-        } else {
-            Ok(())
-        }
+        let passed = self.pass(alloc, list, now)?;
+        self.perform_all(passed.before)?;
+        self.perform_behind(alloc, passed.behind)
     }
 
     /// Handles the lists of the queue in order.

@@ -73,7 +73,9 @@ pub fn text_of(alloc: Global, end: &End) -> Result<Text, Memory>
             let fault = *fault;
             cd_opening::text_of(alloc, &OpeningFault::Types { path, fault })
         }
-        End::SettingsFault(fault) => cd_opening::text_of(alloc, &OpeningFault::Settings(*fault)),
+        End::SettingsFault(fault) => {
+            cd_opening::text_of(alloc, &OpeningFault::Settings(fault.copy(alloc)?))
+        }
         End::OpenFault(path) => cd_opening::text_of(alloc, &OpeningFault::Open(path.copy(alloc)?)),
         End::ReadFault(path) => cd_opening::text_of(alloc, &OpeningFault::Read(path.copy(alloc)?)),
         End::LinkFault => Text::of(alloc, "collectd: link failed\n"),

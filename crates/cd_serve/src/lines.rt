@@ -14,11 +14,13 @@ use crate::outside::{Around, Outside};
 use crate::program::{INPUT_LIMIT, RanOf};
 use crate::{ShelvedOf, ShelvedProbeOf};
 use cd_cache::{Cache, HashKey};
+use cd_daemon::Rules;
 use cd_dialogue::serve_all;
 use cd_globals::Globals;
 use cd_io::{Clock, Dice, Link};
 use cd_opening::Opened;
 use cd_registry::{Kinds, Plug};
+use cd_settings::Settings;
 use cd_types::TypesDb;
 use cd_value::{Names, Sequence, Text};
 use std::alloc::Global;
@@ -59,24 +61,26 @@ fn writes_first<P: Plug>(file: &Option<Text>, loaded: &Names, shelf: &[ShelvedOf
     }
 }
 
-/// A daemon before the first line, with these types and settings, and `writer` where the first plug-in is registered
-/// and called with lists. The names of its cache are hashed with that key.
+/// A daemon before the first line, with these types, settings and filter chains, and `writer` where the first plug-in
+/// is registered and called with lists. The names of its cache are hashed with that key.
 fn begin<O: Outside>(
     alloc: Global,
     types: TypesDb,
     globals: Globals,
+    rules: Rules,
     outside: O,
     writer: bool,
     key: HashKey,
 ) -> Daemon<O>
     ensures { seen_of O.outside_pairs O.outside_shelf result ≡ begun_with
-        (record { types = types; globals = globals }) writer
+        (record { types = types; globals = globals; rules = rules }) writer
         (O.outside_shelf outside) (O.outside_pairs outside) }
 {
     let cache = Cache::keyed(alloc, globals.timeout, key);
     Daemon {
         types,
         globals,
+        rules,
         outside,
         writer,
         cache,
@@ -111,8 +115,17 @@ pub(crate) fn serve_lines<C: Clock, D: Dice, L: Link, P: Plug, Q: Drop>(
         settings,
         ..
     } = found;
-    let writer = writes_first(file, &settings.loaded, outside.plugs.as_slice());
-    let mut daemon = begin(alloc, types, settings.globals, outside, writer, key);
+    let Settings {
+        globals,
+        loaded,
+        chains,
+        pre,
+        post,
+        ..
+    } = settings;
+    let writer = writes_first(file, &loaded, outside.plugs.as_slice());
+    let rules = Rules { chains, pre, post };
+    let mut daemon = begin(alloc, types, globals, rules, outside, writer, key);
     let served = serve_all(alloc, input, &mut daemon, INPUT_LIMIT);
     let Daemon { outside, given, .. } = daemon;
     RanOf {

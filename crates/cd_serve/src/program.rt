@@ -5,7 +5,7 @@ ghost use Rattle.cd_io.specs.Causes.{Rose};
 ghost use Rattle.cd_opening.specs.declared.fault.OpeningFault.{OpeningFault};
 ghost use Rattle.cd_serve.specs.Promises.{IsTaken, Promises};
 ghost use Rattle.cd_serve.specs.Shelf.{on_shelf, places};
-ghost use Rattle.cd_serve.specs.Started.{AreAccepted, AreRefused, HasTried, NoneFailed, end_at};
+ghost use Rattle.cd_serve.specs.Started.{AreAccepted, AreRefused, HasTried, IsFree, NoneFailed, end_at};
 ghost use Rattle.std.specs.Prelude.{None, Some, [], length, map, string_bytes, ◌≡◌, ◌≤◌, ◌⊎◌};
 
 use crate::configured::say_items;
@@ -88,14 +88,15 @@ pub fn run_of<W: World, L: Link, P: Plug, Q: Drop>(
         → command (map string_bytes words.now) ≡ Some of
         → AreRefused of.file (W.world_tells world.old).files fault
         → NoneFailed (W.world_tells world.old) (W.world_tells world.new)
-        → (result.end ≡ end_at fault) ⊎ (result.end ≡ End.Memory) }
+        → (result.end ≡ end_at fault)
+        ⊎ IsFree of.file (W.world_tells world.old).files result.end }
     ensures complete { (of : Command)
         → command (map string_bytes words.now) ≡ Some of
         → AreAccepted of.file (W.world_tells world.old).files
         → NoneFailed (W.world_tells world.old) (W.world_tells world.new)
         → (Rose (L.link_tells input.old).faults (L.link_tells input.new).faults → ⊥)
         → IsTaken of.mode (L.link_tells input.old) (L.link_tells input.new)
-        → (result.end ≡ End.Done) ⊎ (result.end ≡ End.Memory) }
+        → (result.end ≡ End.Done) ⊎ IsFree of.file (W.world_tells world.old).files result.end }
     ensures back { places (on_shelf P.plug_tells result.plugs.items)
         ≡ places (on_shelf P.plug_tells shelf.items) }
     ensures probes { result.probes.items ≡ probes.items }
@@ -127,12 +128,13 @@ pub fn run_of<W: World, L: Link, P: Plug, Q: Drop>(
 /// are the four built-in ones, and the settings those that no option names. With `-t` the canonical text of the
 /// configuration is said, and nothing is heard. With `--lines` the lines of the input are those of
 /// collectd-unixsock(5): the first plug-in is registered under its name where the file loads it or none is named, each
-/// line is answered, its lists come to the cache and are written, and at the end of the input all objects come back,
-/// each in its place. A quiet counts as the end of the input.
+/// line is answered, its lists pass the filter chains of the file and the cache and are written, and at the end of the
+/// input all objects come back, each in its place. A quiet counts as the end of the input.
 ///
 /// It ends with the first of these in order: `Usage` at words that are no command; `ConfFault`, `TypesFault`,
 /// `SettingsFault`, `OpenFault` and `ReadFault` by the files; `LinkFault` where the input failed; `InputTooLong` where
-/// more than `INPUT_LIMIT` bytes came. `Memory` may come at any time.
+/// more than `INPUT_LIMIT` bytes came. `Memory` may come at any time, and a `SettingsFault` for a regular expression
+/// that is too big when it is compiled.
 pub fn run<W: World, L: Link>(
     alloc: Global,
     words: &[String],
@@ -158,14 +160,15 @@ pub fn run<W: World, L: Link>(
         → command (map string_bytes words.now) ≡ Some of
         → AreRefused of.file (W.world_tells world.old).files fault
         → NoneFailed (W.world_tells world.old) (W.world_tells world.new)
-        → (result.end ≡ end_at fault) ⊎ (result.end ≡ End.Memory) }
+        → (result.end ≡ end_at fault)
+        ⊎ IsFree of.file (W.world_tells world.old).files result.end }
     ensures complete { (of : Command)
         → command (map string_bytes words.now) ≡ Some of
         → AreAccepted of.file (W.world_tells world.old).files
         → NoneFailed (W.world_tells world.old) (W.world_tells world.new)
         → (Rose (L.link_tells input.old).faults (L.link_tells input.new).faults → ⊥)
         → IsTaken of.mode (L.link_tells input.old) (L.link_tells input.new)
-        → (result.end ≡ End.Done) ⊎ (result.end ≡ End.Memory) }
+        → (result.end ≡ End.Done) ⊎ IsFree of.file (W.world_tells world.old).files result.end }
     ensures back { places (on_shelf ⟦<Box<dyn Plug + Send> as Plug>⟧.plug_tells result.plugs.items)
         ≡ places (on_shelf ⟦<Box<dyn Plug + Send> as Plug>⟧.plug_tells shelf.items) }
     ensures probes { result.probes.items ≡ probes.items }

@@ -1,8 +1,9 @@
 -- How far a run over lines has come.
 use Rattle.cd_cache.specs.Cache.{CacheMap, cached, empty}
 use Rattle.cd_cache.specs.Rows.{rows_of}
+use Rattle.cd_chain.specs.declared.data.Action.{Action}
 use Rattle.cd_daemon.specs.Answers.{found_in}
-use Rattle.cd_daemon.specs.Handling.{set_of, stored}
+use Rattle.cd_daemon.specs.Handling.{set_of}
 use Rattle.cd_daemon.specs.declared.Opening.{Opening}
 use Rattle.cd_history.specs.History.{History}
 use Rattle.cd_history.specs.Order.{IsFrontOf}
@@ -12,11 +13,13 @@ use Rattle.cd_history.specs.declared.given.Given.{Given}
 use Rattle.cd_io.specs.Told.{dice_after}
 use Rattle.cd_registry.specs.Faults.{is_reserved}
 use Rattle.cd_registry.specs.declared.calls.Answer.{Answer}
+use Rattle.cd_registry.specs.declared.calls.AnsweredCall.{AnsweredCall}
 use Rattle.cd_registry.specs.declared.calls.Call.{Call}
 use Rattle.cd_registry.specs.declared.kinds.TheConstants.Kinds.{WRITE}
 use Rattle.cd_serve.specs.Shelf.{places}
 use Rattle.cd_serve.specs.Tells.{Pairs}
-use Rattle.cd_serve.specs.Working.Outside.{GaveAllUpTo, GaveUpTo, after_moment, after_word, called_first}
+use Rattle.cd_serve.specs.Working.Outside.{GaveAllUpTo, GaveUpTo, after_moment, after_word, answers_given, called_first, called_in_order}
+use Rattle.cd_serve.specs.Working.Passing.{Passage, calls_asked, passage_of, writer_of}
 use Rattle.cd_serve.specs.Working.Standing.{RunsOn, registration_of}
 use Rattle.cd_serve.specs.declared.daemon.Daemon.{Daemon}
 use Rattle.cd_sock.specs.Lines.{Cut}
@@ -70,7 +73,7 @@ pub record IsWorking (begun : Seen) (start : History)
 -- what is seen of a daemon, where these say what its outside tells
 abbrev pub seen_of : {O : Type 0} → (O → Pairs) → (O → List OnShelf) → Daemon O → Seen
 seen_of pairs shelf daemon = record {
-  opening = record { types = daemon.types; globals = daemon.globals };
+  opening = record { types = daemon.types; globals = daemon.globals; rules = daemon.rules };
   shelf = shelf daemon.outside;
   writer = daemon.writer;
   cache = daemon.cache;
@@ -102,9 +105,13 @@ pub record Rolled (count : ℕ) (old new : Seen) : Type 0 where
     pairs = record { clock = old.pairs.clock; dice = new.pairs.dice };
   }
 
--- after a list came to the cache at a moment
-abbrev pub with_list : ValueList → ℕ → Seen → Seen
-with_list list now seen = record seen { cache = stored (set_of seen.opening.types list) list now seen.cache }
+-- what a list leaves that is put through the filter chains and the cache at a moment
+abbrev pub passage_at : ValueList → ℕ → Seen → Passage
+passage_at list now seen = passage_of (set_of seen.opening.types list) seen.opening.rules seen.cache list now
+
+-- with another cache
+abbrev pub with_cache : CacheMap → Seen → Seen
+with_cache cache seen = record seen { cache = cache }
 
 -- after the first plug-in was called and gave that answer
 abbrev pub with_answer : Call → Answer → Seen → Seen
@@ -116,6 +123,19 @@ with_answer call answer seen = record seen {
 -- the first plug-in was called, where there is one
 abbrev pub WasCalled : Call → Seen → Seen → Type 0
 WasCalled call old new = ((old.shelf ≡ []) × (new ≡ old)) ⊎ ((answer : Answer) × (new ≡ with_answer call answer old))
+
+-- after the first plug-in was called with these and gave these answers, in order
+abbrev pub with_calls : List AnsweredCall → Seen → Seen
+with_calls cs seen = record seen {
+  shelf = called_in_order cs seen.shelf;
+  given = seen.given ++ answers_given cs;
+}
+
+-- these actions were performed: the calls that they make were made, in order
+pub record Performed (asked : List Action) (old new : Seen) : Type 0 where
+  pub answered : List AnsweredCall
+  pub calls : map (λ c. c.call) answered ≡ calls_asked (writer_of old.writer old.shelf) asked
+  pub seen : new ≡ with_calls answered old
 
 -- the first list of the queue was handled
 abbrev pub HandlesOne : ValueList → Seen → Seen → Type 0

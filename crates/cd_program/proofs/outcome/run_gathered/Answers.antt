@@ -1,4 +1,5 @@
 use Rattle.cd_program.proofs.Behind.{completes_so, ends_so, promises_gathered, promises_link, same_places, tried_so, unheard_so}
+use Rattle.cd_serve.specs.Started.{IsFree}
 use Rattle.cd_program.proofs.outcome.run_gathered.Goals as goal
 
 pub returns-clause-promises : goal.returns-clause-promises
@@ -19,12 +20,12 @@ returns-clause-usage g c = λ none.
 
 pub returns-clause-faults : goal.returns-clause-faults
 returns-clause-faults g c = λ of fault is refused none fine.
-    ends_so _ _ _ _ _ _ _ _ _ _ _ _ c.run-ran.result.end _ _ c.new-gathering.ensures.tells c.run-ran.ensures.promises c.finish-link.ensures.finishes c.end_after.ensures
+    ends_so _ (IsFree of.file (g.W.World.world_tells c.args.world.now).files) _ _ _ _ _ _ _ _ _ _ c.run-ran.result.end _ _ c.new-gathering.ensures.tells c.run-ran.ensures.promises c.finish-link.ensures.finishes c.end_after.ensures
     (c.run-ran.ensures.faults of fault is refused none) fine
 
 pub returns-clause-complete : goal.returns-clause-complete
 returns-clause-complete g c = λ of is accepted none fine taken.
-    completes_so of.mode _ _ _ _ _ _ _ _ _ _ c.run-ran.result.end _ _ c.new-gathering.ensures.tells c.run-ran.ensures.promises c.finish-link.ensures.finishes c.end_after.ensures
+    completes_so of.mode (IsFree of.file (g.W.World.world_tells c.args.world.now).files) _ _ _ _ _ _ _ _ _ _ c.run-ran.result.end _ _ c.new-gathering.ensures.tells c.run-ran.ensures.promises c.finish-link.ensures.finishes c.end_after.ensures
     (c.run-ran.ensures.complete of is accepted none) fine taken
 
 pub returns-clause-back : goal.returns-clause-back

@@ -1,6 +1,9 @@
-use Rattle.cd_serve.proofs.Outcomes.{done_refused, done_served, fault_accepted, fault_refused}
+use Rattle.cd_serve.proofs.Outcomes.{done_refused, done_served, fault_accepted, fault_refused, written}
 use Rattle.cd_serve.proofs.program.run_of.Goals as goal
-use Rattle.std.proofs.Common.{map, string_bytes}
+use Rattle.cd_serve.specs.Started.{IsFree}
+use Rattle.cd_serve.specs.declared.end.End.TheVariants as ends
+use Rattle.cd_serve.specs.declared.end.End.{End}
+use Rattle.std.proofs.Common.{map, string_bytes, subst, sym, ◌≡◌, ◌⊎◌}
 
 pub returns-in-Err-clause-faults : goal.returns-in-Err-clause-faults
 returns-in-Err-clause-faults g c =
@@ -24,4 +27,9 @@ returns-clause-faults g c = λ of fault is refused none.
 
 pub returns-clause-complete : goal.returns-clause-complete
 returns-clause-complete g c = λ of is accepted none fine taken.
-    done_served _ c.in-Ok.started.0 _ _ _ _ _ _ _ _ _ c.in-Ok.ensures.command c.in-Lines.is c.serve_lines.ensures.serves of is fine taken
+    done_served (g.W.World.world_tells c.args.world.now).files _ c.in-Ok.started.0 _ _ _ _ _ _ _ _ _ c.in-Ok.ensures.command c.in-Lines.is c.serve_lines.ensures.serves of is fine taken
+
+pub returns-in-Test-clause-complete : goal.returns-in-Test-clause-complete
+returns-in-Test-clause-complete g c = λ of is accepted none fine taken.
+    subst (λ (e : End). (e ≡ ends.Done) ⊎ IsFree of.file (g.W.World.world_tells c.args.world.now).files e) (sym c.uncalled-in-Test.ensures.end)
+    (written c.in-Ok.started.1.items _ _ of.file (g.W.World.world_tells c.args.world.now).files c.say_items-end.result c.say_items-end.ensures fine)

@@ -1,9 +1,9 @@
-use Rattle.cd_serve.proofs.Working.{on_ok, works_called, works_unwritten}
+use Rattle.cd_serve.proofs.Working.{handles_one, on_ok}
 use Rattle.cd_serve.proofs.daemon.Daemon.handle.Goals as goal
 
-pub returns-then-self-clause-ok : goal.returns-then-self-clause-ok
-returns-then-self-clause-ok g c =
-    on_ok c.call.result (works_called _ _ _ c.args.list c.in_ok-now.now c.in_ok-now.ensures.ok.0 c.in_ok-now.ensures.ok.1 c.in_ok-store.ensures.ok _ c.if-self.true) c.call.ensures.ok
-
-pub returns-else-self-clause-ok : goal.returns-else-self-clause-ok
-returns-else-self-clause-ok g c = works_unwritten _ _ _ c.args.list c.in_ok-now.now c.in_ok-now.ensures.ok.0 c.in_ok-now.ensures.ok.1 c.in_ok-store.ensures.ok c.if-self.false
+pub returns-clause-ok : goal.returns-clause-ok
+returns-clause-ok g c =
+    on_ok c.perform_behind.result
+    (handles_one _ _ _ _ _ c.args.list c.in_ok-now.now _ _ c.in_ok-now.ensures.ok.0 c.in_ok-now.ensures.ok.1 c.in_ok-passed.ensures.cache c.in_ok-passed.ensures.asked
+    c.in_ok-perform_all.ensures.ok)
+    c.perform_behind.ensures.ok
