@@ -1,0 +1,4 @@
+pub mod Due
+pub mod Place
+pub mod Schedule
+pub mod NextReads
