@@ -1,6 +1,5 @@
 //! The matches "value" and "empty_counter".
 ghost use Rattle.cd_match.specs.Matches.{are_empty, chosen_pass, enough, has_sources, inverted, is_counter, is_empty, number_of, passes, passes_at, passes_named, value_holds};
-ghost use Rattle.cd_value.specs.Rates as rates;
 ghost use Rattle.std.specs.List.{list_all, list_any, range_with_len};
 ghost use Rattle.std.specs.Option.{option_copied};
 ghost use Rattle.std.specs.Prelude.{◌≡◌};
@@ -113,35 +112,8 @@ impl ValueMatch {
     fn passes(&self, rate: &Rate) -> bool
         ensures { result ≡ passes self.now rate.now }
     {
-        let is_within = reaches_min(rate, self.min) && keeps_max(rate, self.max);
-        is_known(rate) && inverted(self.invert, is_within)
-    }
-}
-
-fn is_known(rate: &Rate) -> bool
-    ensures { result ≡ rates.is_known rate.now }
-{
-    match rate {
-        Rate::Known { num: _, den } => *den != 0,
-        Rate::Unknown => false,
-    }
-}
-
-fn reaches_min(rate: &Rate, min: Option<i128>) -> bool
-    ensures { result ≡ rates.reaches_min rate.now min }
-{
-    match min {
-        Some(min) => rate.at_least(min),
-        None => true,
-    }
-}
-
-fn keeps_max(rate: &Rate, max: Option<i128>) -> bool
-    ensures { result ≡ rates.keeps_max rate.now max }
-{
-    match max {
-        Some(max) => rate.at_most(max),
-        None => true,
+        let is_within = rate.reaches_min(self.min) && rate.keeps_max(self.max);
+        rate.is_known() && inverted(self.invert, is_within)
     }
 }
 

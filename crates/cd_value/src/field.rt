@@ -1,11 +1,25 @@
 //! Texts made fit to be fields of an identifier.
 ghost use Rattle.cd_value.specs.Clean.{clean_byte, clean_field, field_or_old, is_clean, longest_front};
-ghost use Rattle.cd_value.specs.Identifier.{has_slash, is_control, is_empty, is_field};
+ghost use Rattle.cd_value.specs.Identifier.{has_control, has_slash, is_control, is_empty, is_field};
 ghost use Rattle.std.specs.Prelude.{IfOk, IsTrue, false, length, map, take, ℕ, ◌<◌, ◌≡◌, ◌≤◌};
 ghost use Rattle.std.specs.Str.{IsCharBoundary};
 
 use crate::{FIELD_LIMIT, Memory, Text, TryCopy};
 use std::alloc::Global;
+
+/// Whether a text has a control character, which no field of an identifier has.
+pub fn has_control(text: &str) -> bool
+    ensures { result ≡ has_control text.now }
+{
+    text.bytes().any(is_control)
+}
+
+/// Whether a text has a `/`, which parts the fields of a printed identifier.
+pub fn has_slash(text: &str) -> bool
+    ensures { result ≡ has_slash text.now }
+{
+    text.bytes().any(|byte| byte == b'/')
+}
 
 /// A text made fit to be a field of an identifier: control characters, and `/` where `slash` is
 /// true, become `_`, and of the result the longest front of at most `FIELD_LIMIT` bytes is kept that
@@ -76,7 +90,7 @@ fn clean_bytes(mut bytes: Vec<u8>, slash: bool) -> Vec<u8>
 }
 
 /// Whether a byte is a control character of ASCII.
-pub(crate) fn is_control(byte: u8) -> bool
+fn is_control(byte: u8) -> bool
     ensures { result ≡ is_control byte }
 {
     byte < 32 || byte == 127

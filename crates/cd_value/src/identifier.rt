@@ -4,7 +4,7 @@ ghost use Rattle.cd_value.specs.Parts.{IsCutAtSlash, IsFaultOf, shown};
 ghost use Rattle.std.specs.List.{after_first, before_first, list_all};
 ghost use Rattle.std.specs.Prelude.{IfErr, IfOk, IsTrue, MatchOption, OnOk, count_by, false, ◌++◌, ◌+◌, ◌<◌, ◌↔◌, ◌≡◌, ◌≤◌};
 
-use crate::field::is_control;
+use crate::field::has_control;
 use crate::{FIELD_LIMIT, Memory, Text, TryCopy};
 use std::alloc::Global;
 use std::marker::Model;
@@ -229,12 +229,6 @@ fn at_dash(part: &str) -> (&str, &str)
         Some((name, instance)) => (name, instance),
         None => (part, ""),
     }
-}
-
-fn has_control(text: &str) -> bool
-    ensures { result ≡ has_control text.now }
-{
-    text.bytes().any(is_control)
 }
 
 fn is_type(text: &str) -> bool

@@ -22,7 +22,7 @@ pub use data::{
     DataSet, DataSource, DsType, FlushRequest, Notification, Offered, Rate, Severity, Value,
     ValueList,
 };
-pub use field::{clean, longest_front};
+pub use field::{clean, has_control, has_slash, longest_front};
 pub use identifier::{IdFault, Identifier};
 pub use memory::{Memory, Refused, TryCopy};
 pub use numbers::{FIELD_LIMIT, MESSAGE_LIMIT, MILLIONTHS, NUMBER_LIMIT, SECOND, WRAP_OF_32_BITS};

@@ -76,7 +76,18 @@ impl Rate {
         }
     }
 
-    fn reaches_min(&self, min: Option<i128>) -> bool
+    /// Whether the rate is known: a fraction over 0 is none.
+    pub fn is_known(&self) -> bool
+        ensures { result ≡ is_known self.now }
+    {
+        match self {
+            Rate::Known { num: _, den } => *den != 0,
+            Rate::Unknown => false,
+        }
+    }
+
+    /// Whether the rate is at least a bound in millionths, where there is one.
+    pub fn reaches_min(&self, min: Option<i128>) -> bool
         ensures { result ≡ rates.reaches_min self.now min }
     {
         match min {
@@ -85,7 +96,8 @@ impl Rate {
         }
     }
 
-    fn keeps_max(&self, max: Option<i128>) -> bool
+    /// Whether the rate is at most a bound in millionths, where there is one.
+    pub fn keeps_max(&self, max: Option<i128>) -> bool
         ensures { result ≡ rates.keeps_max self.now max }
     {
         match max {
