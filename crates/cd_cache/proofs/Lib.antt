@@ -1,10 +1,10 @@
 pub mod After
 pub mod ByName
 pub mod Due
+pub mod Listing
 pub mod Losses
 pub mod Names
 pub mod Pairs
 pub mod Previews
 pub mod Shown
-pub mod Sorting
 pub mod Updates

@@ -6,6 +6,7 @@ use Rattle.std.proofs.Common.{Bool, List, None, Option, Some, ap, ap₂, arith, 
 use Rattle.std.proofs.lemmas.Map.Text.{is_eq-slice_cmp}
 use Rattle.std.proofs.lemmas.Slice.Eq.{bytes_eq-Decides}
 use Rattle.std.specs.Cmp.{unsigned_tied}
+use Rattle.std.specs.Option.{is_some}
 use Rattle.std.specs.Ordering.{is_eq, ordering_then}
 use Rattle.std.specs.Str.{bytes_eq}
 use Rattle.std.specs.declared.cmp.Ordering.TheVariants.{Equal, Greater, Less}
@@ -113,3 +114,13 @@ had_pair timeout entries index name before indexed there = indexed (expiry timeo
   where
     itself : (n : ℕ) → (n == n) ≡ true
     itself n = grind arith
+
+-- a name that was put and is taken out again, at a name without an entry
+pub named_restored : (o : Option CacheEntry) (same had : Bool) → (same ≡ true → o ≡ None) → had ≡ is_some o → cond same false (cond same true had) ≡ is_some o
+named_restored o true had is_none is = sym (ap is_some (is_none refl))
+named_restored o false had is_none is = is
+
+-- a name that is taken out with its entry
+pub named_removed : (o : Option CacheEntry) (same had : Bool) → had ≡ is_some o → cond same false had ≡ is_some (cond same None o)
+named_removed o true had is = refl
+named_removed o false had is = is

@@ -1,4 +1,5 @@
--- The body of the cache: a map in no order, and beside it its names by the moment from which on they count as missing.
+-- The body of the cache: a map in no order, and beside it its names in two orders, by the moment from which on they
+-- count as missing and by their bytes.
 use Rattle.cd_cache.specs.Cache.{is_old, name_order, renewed}
 use Rattle.cd_cache.specs.Lost.{expiry}
 use Rattle.cd_cache.specs.declared.entry.CacheEntry.{CacheEntry}
@@ -9,7 +10,7 @@ use Rattle.cd_value.specs.declared.data.ValueList.{ValueList}
 use Rattle.std.specs.BTreeMap.{insert_entry, is_at}
 use Rattle.std.specs.List.{list_any}
 use Rattle.std.specs.Map.{lookup}
-use Rattle.std.specs.Option.{option_map_or}
+use Rattle.std.specs.Option.{is_some, option_map_or}
 use Rattle.std.specs.Ordering.{nat_cmp, ordering_then}
 use Rattle.std.specs.Prelude.{Bool, List, Option, Some, [], false, filter, if◌then◌else◌, map, nat_le, ℕ, ◌&&◌, ◌==◌, ◌∷◌, ◌≡◌}
 use Rattle.std.specs.Str.{bytes_eq}
@@ -44,6 +45,24 @@ abbrev pub IsIndexOf : ℕ → List (List ℕ × CacheEntry) → List (ℕ × Li
 IsIndexOf timeout entries index =
     (at : ℕ) (name : List ℕ) → has index (at, name) ≡ expires_at timeout at (found entries name)
 
+-- a name is among names
+abbrev pub has_name : List (List ℕ) → List ℕ → Bool
+has_name names name = list_any (is_at (name_order name)) names
+
+-- names are exactly those of a map
+abbrev pub AreNamesOf : List (List ℕ × CacheEntry) → List (List ℕ) → Type 0
+AreNamesOf entries names = (name : List ℕ) → has_name names name ≡ is_some (found entries name)
+
+-- the names of a cache, each once: in pairs with their moments, in this order, and in the order of their bytes
+pub record Orders : Type 0 where
+  pub pairs : List (ℕ × List ℕ)
+  pub names : List (List ℕ)
+
+-- they are those of a map, with its moments
+pub record AreOrdersOf (timeout : ℕ) (entries : List (List ℕ × CacheEntry)) (orders : Orders) : Type 0 where
+  pub indexed : IsIndexOf timeout entries orders.pairs
+  pub named : AreNamesOf entries orders.names
+
 -- the pairs of an index whose moment has come
 abbrev pub due : ℕ → List (ℕ × List ℕ) → List (ℕ × List ℕ)
 due now index = filter (λ pair. nat_le pair.0 now) index
@@ -51,10 +70,6 @@ due now index = filter (λ pair. nat_le pair.0 now) index
 -- the names of pairs
 abbrev pub names_in : List (ℕ × List ℕ) → List (List ℕ)
 names_in index = map (λ (pair : ℕ × List ℕ). pair.1) index
-
--- a name is among names
-abbrev pub has_name : List (List ℕ) → List ℕ → Bool
-has_name names name = list_any (is_at (name_order name)) names
 
 -- what becomes of a list whose name has an entry, and of that entry
 abbrev pub outcome_at : Option CacheEntry → ValueList → Updated

@@ -1,12 +1,11 @@
 //! The cache and its calls.
 ghost use Rattle.cd_cache.specs.Cache.{KeepsOthers, cached, cached_rates, empty, entry_of, name_order, outcome, preview_of, updated, without};
-ghost use Rattle.cd_cache.specs.Index.{IsIndexOf, by_name, found, has, is_same, kept, outcome_at};
+ghost use Rattle.cd_cache.specs.Index.{AreOrdersOf, found, has, is_same, kept, outcome_at};
 ghost use Rattle.cd_cache.specs.Lost.{expiry, lost_of};
-ghost use Rattle.cd_cache.specs.Rows.{names_of, rows_of};
+ghost use Rattle.cd_cache.specs.Rows.{names_of, rows_of, shown};
 ghost use Rattle.cd_value.specs.Identifier.{name_of};
 ghost use Rattle.std.specs.List.Sorted.{IsStrictlySortedBy};
-ghost use Rattle.std.specs.Map.Iter.{deref_pair};
-ghost use Rattle.std.specs.Prelude.{IfOk, IfSome, IsNone, List, None, OnErr, OnOk, Some, cond, false, is_some, length, map, option_copied, true, ℕ, ◌+◌, ◌<◌, ◌^◌, ◌↔◌, ◌≡◌, ◌≤◌};
+ghost use Rattle.std.specs.Prelude.{IfOk, IfSome, IsNone, List, None, OnErr, OnOk, Some, cond, false, is_some, length, option_copied, true, ℕ, ◌+◌, ◌<◌, ◌^◌, ◌↔◌, ◌≡◌, ◌≤◌};
 ghost use Rattle.std.specs.Str.{bytes_eq};
 
 use crate::entry::moment_after;
@@ -16,7 +15,7 @@ use crate::renewal::Renewal;
 use crate::{CacheEntry, HashKey, Updated};
 use cd_value::{DataSet, Memory, Names, RateView, Rates, Rows, Text, TryCopy, ValueList};
 use std::alloc::Global;
-use std::collections::{BTreeMap, HashMap};
+use std::collections::HashMap;
 use std::marker::Model;
 
 /// The value cache: the last value list of each name, which is the printed identifier, as in
@@ -25,7 +24,7 @@ use std::marker::Model;
 pub struct Cache {
     timeout: u32,
     entries: HashMap<Text, CacheEntry, HashKey>,
-    /// Each name once, with the moment from which on its entry counts as missing.
+    /// Each name once, by the moment from which on its entry counts as missing, and by its bytes.
     index: Index,
 }
 
@@ -34,12 +33,12 @@ impl Model for Cache {
 
     ghost Value = { CacheMap };
 
-    ghost use Rattle.cd_cache.specs.Index.{IsIndexOf, by_name};
+    ghost use Rattle.cd_cache.specs.Index.{AreOrdersOf, by_name};
 
     ghost view = { λ cache.
         record { timeout = cache.timeout; entries = by_name cache.entries.entries } };
 
-    ghost invariant = { λ cache. IsIndexOf cache.timeout cache.entries.entries cache.index };
+    ghost invariant = { λ cache. AreOrdersOf cache.timeout cache.entries.entries cache.index };
 }
 
 impl RateView for Cache {
@@ -151,12 +150,28 @@ impl Cache {
         ensures rows { IfOk result (λ rows. rows ≡ rows_of self.now) }
         ensures sorted { IfOk result (λ rows. IsStrictlySortedBy name_order (names_of rows)) }
     {
-        let sorted = sorted(alloc, &self.entries)?;
-        let mut rows = Vec::with_capacity(alloc, sorted.len())?;
-        for (name, entry) in sorted.iter() {
-            rows.push((entry.list.time, name.copy(alloc)?))?;
+        let listed = self.listed(alloc)?;
+        let mut rows = Vec::with_capacity(alloc, listed.len())?;
+        for row in &listed {
+            rows.push((row.0, row.1.copy(alloc)?))?;
         }
         Ok(Rows::from_vec(rows))
+    }
+
+    /// What `rows` answers, the time in 2^-30 s and the name of each entry in the order of the names'
+    /// bytes, with the names by reference.
+    pub fn listed(&self, alloc: Global) -> Result<Vec<(u64, &Text)>, Memory>
+        ensures rows { IfOk result (λ rows. shown rows.items ≡ rows_of self.now) }
+        ensures sorted { IfOk result
+            (λ rows. IsStrictlySortedBy name_order (names_of (shown rows.items))) }
+    {
+        let names = self.index.names();
+        let mut rows = Vec::with_capacity(alloc, names.len())?;
+        for name in names {
+            let entry = &self.entries[name];
+            rows.push((entry.list.time, name))?;
+        }
+        Ok(rows)
     }
 
     /// The names of which no list came within the timeout, which counts in intervals of the cached
@@ -215,12 +230,13 @@ fn renew(
     set: &DataSet,
     now: u64,
 ) -> Result<Updated, Memory>
-    requires { has index.old (expiry timeout place.old, name) ≡ true }
+    requires { has index.old.pairs (expiry timeout place.old, name) ≡ true }
     ensures how { IfOk result (λ how. how ≡ outcome_at (Some place.old) list.now) }
     ensures ok { OnOk result (place.new ≡ kept set.now place.old list.now now) }
-    ensures moved { OnOk result ((q : ℕ × List ℕ) → has index.new q
+    ensures moved { OnOk result ((q : ℕ × List ℕ) → has index.new.pairs q
         ≡ cond (is_same (expiry timeout place.new, name) q) true
-        (cond (is_same (expiry timeout place.old, name) q) false (has index.old q))) }
+        (cond (is_same (expiry timeout place.old, name) q) false (has index.old.pairs q))) }
+    ensures names { index.new.names ≡ index.old.names }
     ensures err { OnErr result (place.new ≡ place.old) }
     ensures still { OnErr result (index.new ≡ index.old) }
 {
@@ -244,14 +260,14 @@ fn put_first(
     entry: CacheEntry,
 ) -> Result<(), Memory>
     requires absent { found entries.old.entries name ≡ None }
-    requires indexed { IsIndexOf timeout entries.old.entries index.old }
+    requires indexed { AreOrdersOf timeout entries.old.entries index.old }
     ensures ok { OnOk result ((q : List ℕ) → found entries.new.entries q
         ≡ cond (bytes_eq name q) (Some entry) (found entries.old.entries q)) }
     ensures err { OnErr result (entries.new.entries ≡ entries.old.entries) }
-    ensures indexed { IsIndexOf timeout entries.new.entries index.new }
+    ensures indexed { AreOrdersOf timeout entries.new.entries index.new }
 {
     let at = entry.expiry(timeout);
-    index.add(at, name.copy(alloc)?)?;
+    index.add(alloc, at, &name)?;
     match entries.insert(name, entry) {
         Ok(_) => Ok(()),
         Err(refused) => {
@@ -260,19 +276,4 @@ fn put_first(
             Err(Memory)
         }
     }
-}
-
-/// The entries of a map in the order of their names.
-fn sorted<'a>(
-    alloc: Global,
-    entries: &'a HashMap<Text, CacheEntry, HashKey>,
-) -> Result<BTreeMap<&'a Text, &'a CacheEntry>, Memory>
-    ensures { IfOk result
-        (λ sorted. map deref_pair sorted.entries ≡ by_name entries.now.entries) }
-{
-    let mut sorted = BTreeMap::new(alloc);
-    for (name, entry) in entries.iter() {
-        sorted.insert(name, entry)?;
-    }
-    Ok(sorted)
 }

@@ -4,9 +4,9 @@
 //! Read first `specs/Cache.antt`: what a cache is to contracts, and what a list makes of it;
 //! `specs/Rates.antt` has the rates, `specs/Lost.antt` the names that are lost. A `Cache` is seen
 //! as its timeout and a finite map from names in their order. Its body is a hashed map and beside
-//! it an index of the names by the moment from which on they count as missing; its type keeps that
-//! the index has exactly one pair a name (`specs/Index.antt`). Begin a change at `cache.rt`;
-//! `index.rt` has the index, `renewal.rt` what a newer list brings to the entry of its name.
+//! it an index of the names, by the moment from which on they count as missing and by their bytes;
+//! its type keeps that the index has exactly the map's names (`specs/Index.antt`). Begin a change
+//! at `cache.rt`; `index.rt` has the index, `renewal.rt` what a newer list brings to its entry.
 #![tactic(auto)]
 
 mod cache;
@@ -19,3 +19,6 @@ mod renewal;
 pub use cache::Cache;
 pub use entry::{CacheEntry, Updated};
 pub use key::HashKey;
+
+#[cfg(test)]
+mod tests;

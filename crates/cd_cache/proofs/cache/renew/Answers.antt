@@ -16,9 +16,9 @@ pub returns-clause-moved : goal.returns-clause-moved
 returns-clause-moved c = λ q.
     let to : c.moment_after.result ≡ expiry c.args.timeout c.renew.new.self = c.moment_after.ensures ∙ ap (expiry c.args.timeout) (sym c.renew.ensures) in
     c.in_ok-shift.ensures.ok q
-    ∙ ap₂ (λ (f t : ℕ). cond (is_same (t, c.args.name) q) true (cond (is_same (f, c.args.name) q) false (has c.args.index.now q))) c.expiry-from.ensures to
+    ∙ ap₂ (λ (f t : ℕ). cond (is_same (t, c.args.name) q) true (cond (is_same (f, c.args.name) q) false (has c.args.index.now.pairs q))) c.expiry-from.ensures to
 
 pub returns-then-is_as_new_as-clause-moved : goal.returns-then-is_as_new_as-clause-moved
 returns-then-is_as_new_as-clause-moved c = λ q.
     let pair : ℕ × List ℕ = (expiry c.args.timeout c.args.place.now, c.args.name) in
-    stays_put (is_same pair q) (has c.args.index.now q) (λ same. ap (has c.args.index.now) (sym (same_is pair q same)) ∙ c.requires)
+    stays_put (is_same pair q) (has c.args.index.now.pairs q) (λ same. ap (has c.args.index.now.pairs) (sym (same_is pair q same)) ∙ c.requires)

@@ -23,7 +23,7 @@ returns-clause-names c =
     ∙ ap (λ (names : List (Bor (List ℕ))). c.loop-name.names.items ++ map (deref {X = List ℕ}) names) (sym left)
     ∙ c.loop-name.invariant
     ∙ ap (map (deref {X = List ℕ})) start
-    ∙ due_names c.self.inside.timeout c.args.now entries c.self.inside.index (map (deref {X = List ℕ}) keys) c.self.invariant (sorted_shown keys c.len.ensures.ordered) c.in_ok-found.ensures.names
+    ∙ due_names c.self.inside.timeout c.args.now entries c.self.inside.index.pairs (map (deref {X = List ℕ}) keys) c.self.invariant.indexed (sorted_shown keys c.len.ensures.ordered) c.in_ok-found.ensures.names
     ∙ ap (lost_of c.args.now) c.self.view_is
 
 pub returns-clause-sorted : goal.returns-clause-sorted
@@ -35,9 +35,9 @@ returns-clause-sorted c =
 pub returns-clause-looks : goal.returns-clause-looks
 returns-clause-looks c =
     let entries = c.self.inside.entries.entries in
-    let index = c.self.inside.index in
+    let index = c.self.inside.index.pairs in
     let lost : List (List ℕ) = lost_of c.args.now (cache_of c.self.inside.timeout entries) in
     let told : length c.from_vec.result ≡ length lost = ap length (returns-clause-names c ∙ sym (ap (lost_of c.args.now) c.self.view_is)) in
-    let due_once : length (due c.args.now index) ≤ length lost = due_length c.self.inside.timeout c.args.now entries index c.self.invariant c.lost.ensures.pairs in
+    let due_once : length (due c.args.now index) ≤ length lost = due_length c.self.inside.timeout c.args.now entries index c.self.invariant.indexed c.lost.ensures.pairs in
     let met : c.in_ok-found.found.1 ≤ length (due c.args.now index) + 1 = c.in_ok-found.ensures.looks in
     omega arith

@@ -1,9 +1,9 @@
 -- The map without the name, and the index without its pair.
 use Rattle.cd_cache.proofs.ByName.{cache_without, lookup_by_name, other_name}
-use Rattle.cd_cache.proofs.Pairs.{removed}
+use Rattle.cd_cache.proofs.Pairs.{named_removed, removed}
 use Rattle.cd_cache.proofs.cache.Cache.remove.Goals as goal
 use Rattle.cd_cache.specs.Cache.{CacheMap, cached, without}
-use Rattle.cd_cache.specs.Index.{expires_at, found, has}
+use Rattle.cd_cache.specs.Index.{expires_at, found, has, has_name}
 use Rattle.cd_cache.specs.declared.entry.CacheEntry.{CacheEntry}
 use Rattle.std.proofs.Common.{List, None, Some, ap, cond, sym, ℕ, ◌∙◌, ◌≡◌}
 use Rattle.std.proofs.lemmas.Slice.Eq.{bytes_eq-Decides}
@@ -25,17 +25,26 @@ pub returns-in_default-clause-gone : goal.returns-in_default-clause-gone
 returns-in_default-clause-gone c = lookup_by_name c.args.name.now c.remove_entry.new.self.entries ∙ c.remove_entry.ensures.updates.1
 
 pub invariant_of-self-2 : goal.invariant_of-self-2
-invariant_of-self-2 c = λ at q.
+invariant_of-self-2 c =
     let entries = c.self.inside.entries.entries in
     let timeout = c.self.inside.timeout in
     let name = c.args.name.now in
     let same_name : c.in-Some.name ≡ name = sym ((bytes_eq-Decides name c.in-Some.name).0 c.in-Some.ensures.same_key) in
     let there : found entries name ≡ Some c.in-Some.entry = sym c.remove_entry.ensures.value ∙ ap (option_map (λ (p : List ℕ × CacheEntry). p.1)) c.in-Some.is in
-    c.take_out.ensures (at, q)
-    ∙ removed timeout c.expiry.result at (found entries q) (bytes_eq c.in-Some.name q) (has c.self.inside.index (at, q))
-    (λ same. (c.in-Some.entry, ap (found entries) (sym ((bytes_eq-Decides c.in-Some.name q).0 same) ∙ same_name) ∙ there, c.expiry.ensures))
-    (c.self.invariant at q)
-    ∙ ap (expires_at timeout at) (ap (λ (n : List ℕ). cond (bytes_eq n q) None (found entries q)) same_name ∙ sym (c.remove_entry.ensures.updates.0 q))
+    let out : (q : List ℕ) → cond (bytes_eq c.in-Some.name q) None (found entries q) ≡ found c.remove_entry.new.self.entries q
+    = λ q. ap (λ (n : List ℕ). cond (bytes_eq n q) None (found entries q)) same_name ∙ sym (c.remove_entry.ensures.updates.0 q) in
+    record {
+      indexed = λ at q.
+          c.take_out.ensures.pairs (at, q)
+          ∙ removed timeout c.expiry.result at (found entries q) (bytes_eq c.in-Some.name q) (has c.self.inside.index.pairs (at, q))
+          (λ same. (c.in-Some.entry, ap (found entries) (sym ((bytes_eq-Decides c.in-Some.name q).0 same) ∙ same_name) ∙ there, c.expiry.ensures))
+          (c.self.invariant.indexed at q)
+          ∙ ap (expires_at timeout at) (out q);
+      named = λ q.
+          c.take_out.ensures.names q
+          ∙ named_removed (found entries q) (bytes_eq c.in-Some.name q) (has_name c.self.inside.index.names q) (c.self.invariant.named q)
+          ∙ ap is_some (out q);
+    }
 
 pub returns-clause-found : goal.returns-clause-found
 returns-clause-found c =

@@ -1,8 +1,7 @@
--- The rows so far with those of the pairs that are left are those of all pairs.
+-- The rows so far are those whose names were copied.
 use Rattle.cd_cache.proofs.cache.Cache.rows.Given as goal
-use Rattle.cd_cache.specs.Rows.{row_of}
-use Rattle.std.proofs.Common.{map, ◌++◌, ◌≡◌}
-use Rattle.std.specs.Map.Iter.{deref_pair}
+use Rattle.cd_cache.specs.Rows.{shown}
+use Rattle.std.proofs.Common.{take, ◌≡◌}
 
-abbrev pub invariant-loop-name : goal.invariant-loop-name
-invariant-loop-name l = l.rows.items ++ map row_of (map deref_pair l.name-iterator) ≡ map row_of (map deref_pair l.initial.name-iterator)
+abbrev pub invariant-loop-row : goal.invariant-loop-row
+invariant-loop-row l = l.rows.items ≡ shown (take l.row-index l.row-items)

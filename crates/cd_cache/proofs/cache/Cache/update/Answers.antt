@@ -17,7 +17,7 @@ use Rattle.std.specs.Str.{bytes_eq}
 
 pub renew-requires : goal.renew-requires
 renew-requires c =
-    had_pair c.self.inside.timeout c.self.inside.entries.entries c.self.inside.index c.in_ok-name.name c.in-Some.place.now c.self.invariant
+    had_pair c.self.inside.timeout c.self.inside.entries.entries c.self.inside.index.pairs c.in_ok-name.name c.in-Some.place.now c.self.invariant.indexed
     (sym c.get_mut.ensures.value ∙ ap option_copied_mut c.in-Some.is)
 
 pub returns-clause-outcome : goal.returns-clause-outcome

@@ -9,7 +9,7 @@ use Rattle.std.specs.Prelude.{◌||◌}
 abbrev pub invariant-loop-pair : goal.invariant-loop-pair
 invariant-loop-pair l = record {
   ordered : IsStrictlySortedBy pair_order l.pair-iterator;
-  names : (q : List ℕ) → (has_name (map deref l.lost.keys) q || has_name (names_in (due l.now l.pair-iterator)) q) ≡ has_name (names_in (due l.now l.self)) q;
-  found : l.looks + length (due l.now l.pair-iterator) ≡ length (due l.now l.self);
-  met : l.looks + length l.pair-iterator ≡ length l.self;
+  names : (q : List ℕ) → (has_name (map deref l.lost.keys) q || has_name (names_in (due l.now l.pair-iterator)) q) ≡ has_name (names_in (due l.now l.self.pairs)) q;
+  found : l.looks + length (due l.now l.pair-iterator) ≡ length (due l.now l.self.pairs);
+  met : l.looks + length l.pair-iterator ≡ length l.self.pairs;
 }
