@@ -1,8 +1,11 @@
 -- Replies, printed line by line.
-use Rattle.cd_sock.specs.Replies.{flushed_line, values_found, with_newline}
-use Rattle.std.proofs.Common.{Bool, List, [], ap, append_assoc, cond, sym, ℕ, ◌++◌, ◌∙◌, ◌∷◌, ◌≡◌}
+use Rattle.cd_sock.specs.Replies.{flushed_line, row_line, shown, values_found, with_newline}
+use Rattle.std.proofs.Common.{Bool, Bor, List, [], ap, ap₂, append_assoc, cond, length, sym, ℕ, ◌++◌, ◌∙◌, ◌∷◌, ◌≡◌}
 use Rattle.std.proofs.lemmas.Bool.{eq-eqb, ne_eqb}
+use Rattle.std.proofs.lemmas.List.Folds.{flat_map-map}
+use Rattle.std.proofs.lemmas.List.{length-map}
 use Rattle.std.specs.Fmt.{decimal}
+use Rattle.std.specs.List.{flat_map}
 use Rattle.std.specs.Prelude.{codes}
 
 -- the first line of one value, and of another number of values
@@ -23,3 +26,9 @@ flushes successful errors =
     sym (append_assoc (before ++ decimal errors) (codes " errors") (10 ∷ []) ∙ append_assoc before (decimal errors) (codes " errors\n")
     ∙ append_assoc (codes "0 Done: " ++ decimal successful) (codes " successful, ") (decimal errors ++ codes " errors\n")
     ∙ append_assoc (codes "0 Done: ") (decimal successful) (codes " successful, " ++ (decimal errors ++ codes " errors\n")))
+
+-- rows that are given by reference
+pub rows_shown : (rows : List (ℕ × Bor (List ℕ))) → values_found (length rows) ++ flat_map (λ (row : ℕ × Bor (List ℕ)). row_line (row.0, row.1.now)) rows ≡ values_found (length (shown rows)) ++ flat_map row_line (shown rows)
+rows_shown rows =
+    ap₂ (λ (n : ℕ) (body : List ℕ). values_found n ++ body) (sym (length-map rows (λ (row : ℕ × Bor (List ℕ)). (row.0, row.1.now))))
+    (sym (flat_map-map row_line (λ (row : ℕ × Bor (List ℕ)). (row.0, row.1.now)) rows))

@@ -19,7 +19,7 @@ mod values;
 pub use command::{Command, is_blank_line};
 pub use fault::LineFault;
 pub use lines::{LINE_LIMIT, Line, LineCutter, cut_in_any_pieces};
-pub use reply::{Reply, print_reply};
+pub use reply::{Reply, print_reply, print_rows};
 
 #[cfg(test)]
 mod tests;

@@ -1,13 +1,16 @@
 //! Replies to lines.
 ghost use Rattle.cd_sock.specs.Framing.{HasPlainNames, IsFramed};
 ghost use Rattle.cd_sock.specs.Replies.{fault_text, flushed_line, rate_line, rate_lines, rate_or_nan, reply_text};
-ghost use Rattle.cd_sock.specs.Replies.{row_line, values_found, with_newline};
-ghost use Rattle.std.specs.List.{flat_map};
+ghost use Rattle.cd_sock.specs.Replies.{row_line, shown, values_found, with_newline};
 ghost use Rattle.std.specs.Prelude.{IfOk, OnOk, length, option_copied, string_bytes, ◌++◌, ◌<◌, ◌^◌, ◌≡◌};
 
 use crate::LineFault;
 use cd_value::{Memory, Names, Rate, Rates, Rows, SECOND, Text};
+use itoa::Buffer;
 use std::alloc::{AllocError, Global};
+
+/// Room for the line of a row, in bytes, where its length isn't known yet.
+const ROW_ROOM: usize = 48;
 
 /// The reply to a line, as in collectd-unixsock(5).
 #[derive(Drop)]
@@ -74,8 +77,9 @@ fn push_row(text: &mut String, time: u64, name: &str) -> Result<(), AllocError>
     ensures { OnOk result (string_bytes text.new
         ≡ string_bytes text.old ++ row_line (time, name.now)) }
 {
-    let seconds = time / SECOND;
-    write!(text, "{seconds} ")?;
+    let mut digits = Buffer::new();
+    text.push_str(digits.format(time / SECOND))?;
+    text.push(' ')?;
     text.push_str(name)?;
     text.push('\n')
 }
@@ -93,17 +97,31 @@ fn print_rates(alloc: Global, names: &[Text], rates: &[Rate]) -> Result<Text, Me
     Ok(Text::from_string(text))
 }
 
-/// The reply with the times and names of cached lists.
-fn print_rows(alloc: Global, rows: &[(u64, Text)]) -> Result<Text, Memory>
-    ensures text { IfOk result (λ text. text
-        ≡ values_found (length rows.now) ++ flat_map row_line rows.now) }
-    ensures few { length rows.now < 2 ^ 64 }
+/// What `print_reply` gives for `Listed`, of rows with their times, in 2^-30 s, and their names by
+/// reference: LISTVAL of collectd-unixsock(5).
+pub fn print_rows(alloc: Global, rows: &[(u64, &Text)]) -> Result<Text, Memory>
+    ensures text { IfOk result (λ text. text ≡ reply_text (Reply.Listed (shown rows.now))) }
+    ensures framed { IfOk result (λ text.
+        HasPlainNames (Reply.Listed (shown rows.now)) → IsFramed text) }
 {
     let mut text = print_count(alloc, rows.len())?;
+    text.reserve(rows.len().saturating_mul(ROW_ROOM))?;
     for row in rows {
         push_row(&mut text, row.0, row.1.as_str())?;
     }
     Ok(Text::from_string(text))
+}
+
+/// What `print_rows` gives, of rows that have their names.
+fn print_listed(alloc: Global, rows: &[(u64, Text)]) -> Result<Text, Memory>
+    ensures text { IfOk result (λ text. text ≡ reply_text (Reply.Listed rows.now)) }
+    ensures framed { IfOk result (λ text. HasPlainNames (Reply.Listed rows.now) → IsFramed text) }
+{
+    let mut listed = Vec::with_capacity(alloc, rows.len())?;
+    for row in rows {
+        listed.push((row.0, &row.1))?;
+    }
+    print_rows(alloc, listed.as_slice())
 }
 
 /// The reply with the numbers of flushes.
@@ -145,7 +163,7 @@ pub fn print_reply(alloc: Global, reply: &Reply) -> Result<Text, Memory>
     match reply {
         Reply::Success => Text::of(alloc, "0 Success\n"),
         Reply::Got(names, rates) => print_rates(alloc, names.as_slice(), rates.as_slice()),
-        Reply::Listed(rows) => print_rows(alloc, rows.as_slice()),
+        Reply::Listed(rows) => print_listed(alloc, rows.as_slice()),
         Reply::Fault(fault) => Text::of(alloc, fault_line(*fault)),
         Reply::Flushed(successful, errors) => print_flushed(alloc, *successful, *errors),
         Reply::NoSuchValue => Text::of(alloc, "-1 No such value\n"),

@@ -1,11 +1,12 @@
-use Rattle.cd_sock.proofs.Frames.{done_framed, fault_framed, flushed_framed, rates_framed, refusal_framed, rows_framed}
+use Rattle.cd_sock.proofs.Frames.{done_framed, fault_framed, flushed_framed, rates_framed, refusal_framed}
 use Rattle.cd_sock.proofs.reply.print_reply.Goals as goal
 use Rattle.cd_sock.specs.Framing.{HasPlainNames, IsFramed, is_one_line}
-use Rattle.cd_sock.specs.Replies.{flushed_line, rate_lines, row_line, values_found, with_newline}
+use Rattle.cd_sock.specs.Replies.{flushed_line, rate_lines, values_found, with_newline}
+use Rattle.cd_sock.specs.declared.reply.Reply.TheVariants.{Listed}
 use Rattle.cd_sock.specs.declared.reply.Reply.{Reply}
 use Rattle.std.proofs.Common.{List, ap, length, refl, subst, sym, ℕ, ◌++◌, ◌∙◌, ◌≡◌}
 use Rattle.std.proofs.lemmas.Result.{IfOk-weaker}
-use Rattle.std.specs.List.{flat_map, list_all}
+use Rattle.std.specs.List.{list_all}
 use Rattle.std.specs.Prelude.{codes}
 
 -- a text that is framed
@@ -25,10 +26,8 @@ returns-in-Got-clause-framed c =
 
 pub returns-in-Listed-clause-framed : goal.returns-in-Listed-clause-framed
 returns-in-Listed-clause-framed c =
-    IfOk-weaker c.print_rows.result (λ (text : List ℕ). text ≡ values_found (length c.as_slice-in-Listed.result.now) ++ flat_map row_line c.as_slice-in-Listed.result.now)
-    (λ (text : List ℕ). HasPlainNames c.args.reply.now → IsFramed text)
-    (λ text same plain. at same (rows_framed c.as_slice-in-Listed.result.now c.print_rows.ensures.few
-    (ap (list_all (λ row. is_one_line row.1)) c.as_slice-in-Listed.ensures ∙ subst (λ (reply : Reply). HasPlainNames reply) c.in-Listed.is plain))) c.print_rows.ensures.text
+    IfOk-weaker c.print_listed.result (λ (text : List ℕ). HasPlainNames (Listed c.as_slice-in-Listed.result.now) → IsFramed text) (λ (text : List ℕ). HasPlainNames c.args.reply.now → IsFramed text)
+    (λ text framed plain. framed (ap (list_all (λ row. is_one_line row.1)) c.as_slice-in-Listed.ensures ∙ subst (λ (reply : Reply). HasPlainNames reply) c.in-Listed.is plain)) c.print_listed.ensures.framed
 
 pub returns-in-Fault-clause-framed : goal.returns-in-Fault-clause-framed
 returns-in-Fault-clause-framed c =
