@@ -14,7 +14,6 @@ use Rattle.cd_settings.specs.BigPatterns.{IsTooBig}
 use Rattle.cd_settings.specs.Paths.{paths_of}
 use Rattle.cd_settings.specs.Settings.{settings_of}
 use Rattle.cd_settings.specs.declared.fault.SettingsFault.{SettingsFault}
-use Rattle.cd_settings.specs.declared.fault.SettingsKind.TheVariants.{BadPattern}
 use Rattle.cd_settings.specs.declared.settings.Settings.{Settings}
 use Rattle.cd_value.specs.declared.data.DataSet.{DataSet}
 use Rattle.std.proofs.Common.{Err, List, None, Ok, Option, Result, Some, ap, inl, inr, refl, subst, sym, ℕ, ◌∙◌, ◌≡◌, ◌⊎◌}
@@ -80,15 +79,15 @@ record Decided (path : List ℕ) (told : List FileTells) (a : Result Opened Open
   is : IsRead text read
   gives : answer path told read ≡ a
 
--- a fault that is no bad pattern is the first
-first : (items : List Item) (fault : SettingsFault) → (fault.kind ≡ BadPattern → ⊥) → (settings_of items ≡ Err fault) ⊎ IsTooBig items fault → settings_of items ≡ Err fault
+-- a fault that is no pattern that may be too big is the first
+first : (items : List Item) (fault : SettingsFault) → (IsTooBig items fault → ⊥) → (settings_of items ≡ Err fault) ⊎ IsTooBig items fault → settings_of items ≡ Err fault
 first items fault other refused =
     elim refused [
       | inl is ↦ is
-      | inr big ↦ absurd (other big.0)
+      | inr big ↦ absurd (other big)
     ]
 
-decided : (path : List ℕ) (told : List FileTells) (a : Result Opened OpeningFault) → ComesTo path (Some told) a → IsOfTexts a → Decided path told a
+decided : (path : List ℕ) (told : List FileTells) (a : Result Opened OpeningFault) → ComesTo path (Some told) a → IsOfTexts path told a → Decided path told a
 decided path told (Ok found) c by = record {
   text = c.items.text;
   next = c.items.next;
@@ -111,14 +110,14 @@ decided path told (Err (faults.Settings fault)) c by = record {
   read = Ok c.items;
   is = c.read.tree;
   gives = ap (λ (r : Result (List DataSet) OpeningFault). with_types c.items r) (types_told path told c.items (Ok c.types) c.known)
-      ∙ ap (λ (r : Result Settings SettingsFault). with_settings c.items c.types r) (first c.items fault by c.refused);
+      ∙ ap (λ (r : Result Settings SettingsFault). with_settings c.items c.types r) (first c.items fault (λ big. by (record { items = c.items; read = c.read; big = big })) c.refused);
 }
 decided path told (Err (faults.Open at)) c by = absurd by
 decided path told (Err (faults.Read at)) c by = absurd by
 decided path told (Err faults.Memory) c by = absurd by
 
 pub one_answer : EachTextHasOneTree → (path : List ℕ) (told : List FileTells) (a b : Result Opened OpeningFault) → ComesTo path (Some told) a → ComesTo path (Some told) b
-    → IsOfTexts a → IsOfTexts b → a ≡ b
+    → IsOfTexts path told a → IsOfTexts path told b → a ≡ b
 one_answer one path told a b p q of_a of_b =
     let x = decided path told a p of_a in
     let y = decided path told b q of_b in

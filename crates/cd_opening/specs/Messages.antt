@@ -3,8 +3,7 @@ use Rattle.cd_conf.specs.declared.fault.ConfKind.TheVariants as conf
 use Rattle.cd_conf.specs.declared.fault.ConfKind.{ConfKind}
 use Rattle.cd_opening.specs.declared.fault.OpeningFault.TheVariants as faults
 use Rattle.cd_opening.specs.declared.fault.OpeningFault.{OpeningFault}
-use Rattle.cd_settings.specs.declared.fault.SettingsKind.TheVariants as settings
-use Rattle.cd_settings.specs.declared.fault.SettingsKind.{SettingsKind}
+use Rattle.cd_settings.specs.Words.{settings_words}
 use Rattle.cd_types.specs.declared.fault.TypesKind.TheVariants as types
 use Rattle.cd_types.specs.declared.fault.TypesKind.{TypesKind}
 use Rattle.std.specs.Fmt.{decimal}
@@ -41,19 +40,6 @@ types_words types.NotText = codes "not UTF-8"
 types_words types.TooLong = codes "too long"
 types_words types.ReadFault = codes "cannot read"
 types_words types.Memory = codes "out of memory"
-
-abbrev pub settings_words : SettingsKind → List ℕ
-settings_words settings.UnknownOption = codes "unknown option"
-settings_words settings.WrongArgs = codes "wrong arguments"
-settings_words settings.LimitsCrossed = codes "limits crossed"
-settings_words settings.BadPattern = codes "bad pattern"
-settings_words settings.TooMany = codes "too many"
-settings_words settings.DuplicateChain = codes "duplicate chain"
-settings_words settings.EmptyRule = codes "empty rule"
-settings_words settings.UnknownChain = codes "unknown chain"
-settings_words (settings.JumpCycle names) = codes "jump cycle " ++ names
-settings_words settings.ChainTooHeavy = codes "chain too heavy"
-settings_words settings.Memory = codes "out of memory"
 
 -- the program's name, what is wrong, and a newline
 abbrev pub message : List ℕ → List ℕ

@@ -1,10 +1,9 @@
 //! The exit status and the text of a fault.
-ghost use Rattle.cd_opening.specs.Messages.{conf_words, message_at, message_of, settings_words, status_of, types_words};
+ghost use Rattle.cd_opening.specs.Messages.{conf_words, message_at, message_of, status_of, types_words};
 ghost use Rattle.std.specs.Prelude.{IfOk, ◌≡◌};
 
 use crate::fault::OpeningFault;
 use cd_conf::ConfKind;
-use cd_settings::SettingsKind;
 use cd_types::TypesKind;
 use cd_value::{Memory, Text};
 use std::alloc::Global;
@@ -56,29 +55,6 @@ fn types_words(kind: TypesKind) -> &'static str
     }
 }
 
-/// What is wrong with the items of a configuration.
-fn settings_words(alloc: Global, kind: &SettingsKind) -> Result<Text, Memory>
-    ensures { IfOk result (λ words. words ≡ settings_words kind.now) }
-{
-    match kind {
-        SettingsKind::UnknownOption => Text::of(alloc, "unknown option"),
-        SettingsKind::WrongArgs => Text::of(alloc, "wrong arguments"),
-        SettingsKind::BadPattern => Text::of(alloc, "bad pattern"),
-        SettingsKind::LimitsCrossed => Text::of(alloc, "limits crossed"),
-        SettingsKind::TooMany => Text::of(alloc, "too many"),
-        SettingsKind::DuplicateChain => Text::of(alloc, "duplicate chain"),
-        SettingsKind::EmptyRule => Text::of(alloc, "empty rule"),
-        SettingsKind::UnknownChain => Text::of(alloc, "unknown chain"),
-        SettingsKind::JumpCycle(names) => {
-            let mut words = Text::of(alloc, "jump cycle ")?;
-            words.push(names.as_str())?;
-            Ok(words)
-        }
-        SettingsKind::ChainTooHeavy => Text::of(alloc, "chain too heavy"),
-        SettingsKind::Memory => Text::of(alloc, "out of memory"),
-    }
-}
-
 /// The text of a fault at a line of a file.
 fn text_at(alloc: Global, file: &str, line: u32, words: &str) -> Result<Text, Memory>
     ensures { IfOk result (λ text. text ≡ message_at file.now line words.now) }
@@ -99,7 +75,7 @@ pub fn text_of(alloc: Global, fault: &OpeningFault) -> Result<Text, Memory>
             text_at(alloc, path.as_str(), fault.line, types_words(fault.kind))
         }
         OpeningFault::Settings(fault) => {
-            let words = settings_words(alloc, &fault.kind)?;
+            let words = fault.kind.to_string(alloc)?;
             text_at(alloc, "settings", fault.line, words.as_str())
         }
         OpeningFault::Open(path) => {

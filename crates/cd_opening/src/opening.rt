@@ -29,9 +29,9 @@ pub struct Opened {
 /// Reads the configuration file at a path, as collectd.conf(5) has it, then the types files that it names in order, and
 /// makes the settings. The answer is all of that, or the first fault in this order: of the configuration's text, of
 /// each types file's text, of the settings. A bad pattern of the settings may also come at the line of an option whose
-/// text is a pattern, since it may be too big when it is compiled. `Open` and `Read` come exactly where a call on the
-/// world or on a file failed; the file is then the configuration file, or a types file, and those before it are good.
-/// No file behind one that has a fault is opened.
+/// text is a pattern, where all items before it are in order, since it may be too big when it is compiled. `Open` and
+/// `Read` come exactly where a call on the world or on a file failed; the file is then the configuration file, or a
+/// types file, and those before it are good. No file behind one that has a fault is opened.
 pub fn open_configuration<W: World>(
     alloc: Global,
     world: &mut W,

@@ -6,14 +6,13 @@ use Rattle.cd_daemon.specs.declared.Opening.{Opening}
 use Rattle.cd_daemon.specs.declared.Rules.{Rules}
 use Rattle.cd_io.specs.Causes.{Counts, Rose}
 use Rattle.cd_io.specs.World.{FileTells, WorldTells}
-use Rattle.cd_opening.specs.File.{HasConfFault, HasItems}
-use Rattle.cd_opening.specs.Opened.{ComesTo, HasSettingsFault, HasTypesFault, IsDefault}
+use Rattle.cd_opening.specs.File.{HasConfFault}
+use Rattle.cd_opening.specs.Opened.{ComesTo, HasBigPattern, HasSettingsFault, HasTypesFault, IsDefault}
 use Rattle.cd_opening.specs.declared.fault.OpeningFault.TheVariants as faults
 use Rattle.cd_opening.specs.declared.fault.OpeningFault.{OpeningFault}
 use Rattle.cd_opening.specs.declared.opening.Opened.{Opened}
 use Rattle.cd_serve.specs.declared.end.End.TheVariants as ends
 use Rattle.cd_serve.specs.declared.end.End.{End}
-use Rattle.cd_settings.specs.BigPatterns.{IsTooBig}
 use Rattle.cd_settings.specs.Settings.{settings_of}
 use Rattle.cd_settings.specs.declared.fault.SettingsFault.{SettingsFault}
 use Rattle.cd_settings.specs.declared.settings.Settings.{Settings}
@@ -40,7 +39,7 @@ opening_of found =
 -- whether a plug-in of the shelf is loaded, by its name: without a file each is, with one those that it loads
 abbrev pub loads : Option (List ℕ) → List (List ℕ) → List ℕ → Bool
 loads None loaded name = true
-loads (Some path) loaded name = list_any (λ other. bytes_eq other name) loaded
+loads (Some path) loaded name = list_any (λ other. bytes_eq name other) loaded
 
 module _ (words : List (List ℕ)) (files : Option (List FileTells)) where
   -- the words are a command, and its files have this first fault
@@ -109,12 +108,6 @@ AreRefused (Some path) (Some files) (faults.Conf fault) = HasConfFault path (Som
 AreRefused (Some path) (Some files) (faults.Types at fault) = HasTypesFault path (Some files) (faults.Types at fault)
 AreRefused (Some path) (Some files) (faults.Settings fault) = HasFirst path files fault
 AreRefused _ _ _ = ⊥
-
--- a bad pattern at the line of an option whose text is a pattern: it may be too big when it is compiled
-pub record HasBigPattern (path : List ℕ) (files : Option (List FileTells)) (fault : SettingsFault) : Type 0 where
-  pub items : List Item
-  pub read : HasItems path files items
-  pub big : IsTooBig items fault
 
 -- the ends that no text decides
 abbrev pub IsFree : Option (List ℕ) → Option (List FileTells) → End → Type 0

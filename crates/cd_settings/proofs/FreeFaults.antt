@@ -1,28 +1,40 @@
 -- What the answer to a pattern that wasn't compiled leaves free.
-use Rattle.cd_conf.specs.Parts.{args_of, children_of, line_of}
+use Rattle.cd_conf.specs.Parts.{args_of, line_of}
 use Rattle.cd_conf.specs.declared.item.Item.{Item}
 use Rattle.cd_pattern.specs.Patterns.{is_pattern}
 use Rattle.cd_reading.specs.First.{◌>>=◌}
 use Rattle.cd_reading.specs.Gives.{Gives, Refuses}
-use Rattle.cd_settings.proofs.Folds.{ends}
-use Rattle.cd_settings.specs.BigPatterns.{among, bad_pattern, begins_with_pattern, has_pattern_at, in_chain, in_kind, in_part, is_pattern_at, item_fault, told, told_of}
+use Rattle.cd_settings.specs.BigPatterns.{bad_pattern, begins_with_pattern, has_line, item_fault, option_line, pattern_lines, told, told_of}
 use Rattle.cd_settings.specs.Faults.{settings_fault}
 use Rattle.cd_settings.specs.MatchOptions.{pattern_of}
-use Rattle.cd_settings.specs.Tables.{after_all, is_section_named}
 use Rattle.cd_settings.specs.declared.fault.ItemFault.TheVariants.{Fault, NotCompiled}
 use Rattle.cd_settings.specs.declared.fault.ItemFault.{ItemFault}
 use Rattle.cd_settings.specs.declared.fault.SettingsFault.{SettingsFault}
 use Rattle.cd_settings.specs.declared.fault.SettingsKind.TheVariants as kinds
 use Rattle.cd_settings.specs.declared.fault.SettingsKind.{SettingsKind}
-use Rattle.std.proofs.Common.{Bool, Err, List, None, Ok, Option, Result, Some, ap, ap₂, codes, drop, eq-eqb, false, get_or, length, refl, subst, sym, true, ℕ, ◌&&◌, ◌<◌, ◌==◌, ◌||◌, ◌∙◌, ◌≡◌}
-use Rattle.std.proofs.lemmas.List.Folds.{list_any_at}
+use Rattle.std.proofs.Common.{Bool, Err, List, None, Ok, Option, Result, Some, [], ap, eq-eqb, false, is_ok, refl, subst, sym, true, ℕ, ◌&&◌, ◌++◌, ◌==◌, ◌||◌, ◌∙◌, ◌∷◌, ◌≡◌}
+use Rattle.std.proofs.lemmas.List.Folds.{list_any-append}
 use Rattle.std.specs.Prelude.{if◌then◌else◌}
 
+-- the one lines are among the others
+abbrev pub IsAmong : List ℕ → List ℕ → Type 0
+IsAmong small big = (line : ℕ) → has_line small line ≡ true → has_line big line ≡ true
+
+pub on_left : (xs ys : List ℕ) → IsAmong xs (xs ++ ys)
+on_left xs ys line h = list_any-append (λ other. other == line) xs ys ∙ ap (λ b. b || has_line ys line) h
+
+pub on_right : (xs ys : List ℕ) → IsAmong ys (xs ++ ys)
+on_right xs ys line h = list_any-append (λ other. other == line) xs ys ∙ ap (λ b. has_line xs line || b) h ∙ or_true (has_line xs line)
+  where
+    or_true : (b : Bool) → b || true ≡ true
+    or_true true = refl
+    or_true false = refl
+
 -- what is free at some lines is free where those are among others
-pub widened : {Y : Type 0} (e : ItemFault) (small big : ℕ → Bool) (read : Result Y SettingsFault) → ((line : ℕ) → small line ≡ true → big line ≡ true)
+pub widened : {Y : Type 0} (e : ItemFault) (small big : List ℕ) (read : Result Y SettingsFault) → IsAmong small big
     → Refuses (item_fault small e) read → Refuses (item_fault big e) read
 widened (Fault fault) small big read more h = h
-widened {Y} (NotCompiled line) small big read more h = by (small line) (big line) (more line) h
+widened {Y} (NotCompiled line) small big read more h = by (has_line small line) (has_line big line) (more line) h
   where
     by : (s b : Bool) → (s ≡ true → b ≡ true) → Refuses {Y = Y} {F = SettingsFault} (if s then None else Some (bad_pattern line)) read → Refuses {Y = Y} {F = SettingsFault} (if b then None else Some (bad_pattern line)) read
     by true true m h = tt
@@ -30,66 +42,29 @@ widened {Y} (NotCompiled line) small big read more h = by (small line) (big line
     by false true m h = tt
     by false false m h = h
 
-pub widened_all : {X Y : Type 0} (view : X → Y) (small big : ℕ → Bool) (result : Result X ItemFault) (read : Result Y SettingsFault) → ((line : ℕ) → small line ≡ true → big line ≡ true)
-    → Gives view (item_fault small) result read → Gives view (item_fault big) result read
-widened_all view small big (Ok x) read more h = h
-widened_all view small big (Err e) read more h = widened e small big read more h
-
--- a default target of a chain, and a rule of it
-pub in_default : (item : Item) → is_section_named (codes "Rule") item ≡ false → (line : ℕ) → in_kind item line ≡ true → in_part item line ≡ true
-in_default item is line h = by (is_section_named (codes "Rule") item) is
-  where
-    by : (b : Bool) → b ≡ false → (if b then among in_kind (children_of item) line else in_kind item line) ≡ true
-    by true e = absurd (cc)
-    by false e = h
-
-pub in_rule : (item : Item) → is_section_named (codes "Rule") item ≡ true → (line : ℕ) → among in_kind (children_of item) line ≡ true → in_part item line ≡ true
-in_rule item is line h = by (is_section_named (codes "Rule") item) is
-  where
-    by : (b : Bool) → b ≡ true → (if b then among in_kind (children_of item) line else in_kind item line) ≡ true
-    by true e = h
-    by false e = absurd (cc)
-
--- the section of a chain
-pub in_section : (item : Item) → is_section_named (codes "Chain") item ≡ true → (line : ℕ) → among in_part (children_of item) line ≡ true → in_chain item line ≡ true
-in_section item is line h = ap₂ ◌&&◌ is h
-
--- an item of a list ends it
-pub ends_among : {S : Type 0} (change : S → Item → Result S SettingsFault) (test : Item → ℕ → Bool) (s : S) (items : List Item) (i : ℕ) (x : Item) (e : ItemFault) (total : Result S SettingsFault)
-    → i < length items → x ≡ get_or items i x → Refuses (item_fault (test x) e) (change s x) → after_all change s (drop i items) ≡ total
-    → Refuses (item_fault (among test items) e) total
-ends_among change test s items i x e total lt is h so_far =
-    widened e (test x) (among test items) total
-    (λ line t. list_any_at (λ item. test item line) items i x lt (ap (λ (item : Item). test item line) (sym is) ∙ t))
-    (ends change s items i x (item_fault (test x) e) total lt is h so_far)
-
 -- a text that isn't compiled is no pattern, or its line is free
 pub not_compiled : (item : Item) (t : List ℕ) → begins_with_pattern (args_of item) ≡ is_pattern t
-    → Refuses (item_fault (is_pattern_at item) (NotCompiled (line_of item))) (pattern_of item t)
-not_compiled item t e = by (line_of item == line_of item) (eq-eqb (line_of item) (line_of item) refl) (begins_with_pattern (args_of item)) (is_pattern t) e
+    → Refuses (item_fault (option_line item (pattern_of item t)) (NotCompiled (line_of item))) (pattern_of item t)
+not_compiled item t is = by (begins_with_pattern (args_of item)) (is_pattern t) is
   where
-    by : (same : Bool) → same ≡ true → (b p : Bool) → b ≡ p
-        → Refuses {Y = List ℕ} {F = SettingsFault} (if same && b then None else Some (bad_pattern (line_of item))) (if p then Ok t else Err (bad_pattern (line_of item)))
-    by true s true p e = tt
-    by true s false true e = absurd (cc)
-    by true s false false e = refl
-    by false s b p e = absurd (cc)
+    same : has_line (line_of item ∷ []) (line_of item) ≡ true
+    same = ap (λ b. b || false) (eq-eqb (line_of item) (line_of item) refl)
 
--- ---- rows of a table
+    read : Bool → Result (List ℕ) SettingsFault
+    read p = if p then Ok t else Err (bad_pattern (line_of item))
 
-pub by_first : {X Y : Type 0} (view : X → Y) (fault : ItemFault → Option SettingsFault) (result : Result X ItemFault) (b : Bool) (here there : Result Y SettingsFault)
-    → b ≡ true → Gives view fault result here → Gives view fault result (if b then here else there)
-by_first {X} {Y} view fault result b here there e h = subst (λ (t : Bool). Gives view fault result (if t then here else there)) (sym e) h
-
-pub by_other : {X Y : Type 0} (view : X → Y) (fault : ItemFault → Option SettingsFault) (result : Result X ItemFault) (b : Bool) (here there : Result Y SettingsFault)
-    → b ≡ false → Gives view fault result there → Gives view fault result (if b then here else there)
-by_other {X} {Y} view fault result b here there e h = subst (λ (t : Bool). Gives view fault result (if t then here else there)) (sym e) h
+    by : (b p : Bool) → b ≡ p
+        → Refuses {Y = List ℕ} {F = SettingsFault} (item_fault (if b && is_ok (read p) then line_of item ∷ [] else []) (NotCompiled (line_of item))) (read p)
+    by true true e = subst (λ (b : Bool). Refuses {Y = List ℕ} {F = SettingsFault} (if b then None else Some (bad_pattern (line_of item))) (read true)) (sym same) tt
+    by true false e = absurd (cc)
+    by false true e = absurd (cc)
+    by false false e = refl
 
 -- ---- what a configuration tells
 
 plain_kind : {Y : Type 0} (items : List Item) (kind : SettingsKind) (line : ℕ) (read : Result Y SettingsFault)
     → Refuses (settings_fault (record { kind = kind; line = line })) read → Refuses (told_of items (record { kind = kind; line = line })) read
-plain_kind {Y} items kinds.BadPattern line read h = by (has_pattern_at items line) h
+plain_kind {Y} items kinds.BadPattern line read h = by (has_line (pattern_lines items) line) h
   where
     by : (b : Bool) → Refuses {Y = Y} {F = SettingsFault} (Some (bad_pattern line)) read → Refuses {Y = Y} {F = SettingsFault} (if b then None else Some (bad_pattern line)) read
     by true h = tt
@@ -109,13 +84,13 @@ pub plainly : {Y : Type 0} (items : List Item) (e : SettingsFault) (read : Resul
 plainly items e read h = plain_kind items e.kind e.line read h
 
 pub told_as : {X Y : Type 0} (items : List Item) (e : ItemFault) (read : Result X SettingsFault) (f : X → Result Y SettingsFault)
-    → Refuses (item_fault (has_pattern_at items) e) read → Refuses (told_of items (told e)) (read >>= f)
+    → Refuses (item_fault (pattern_lines items) e) read → Refuses (told_of items (told e)) (read >>= f)
 told_as {X} {Y} items (Fault e) read f h = plainly items e (read >>= f) (by (settings_fault e) h)
   where
     by : (o : Option SettingsFault) → Refuses o read → Refuses o (read >>= f)
     by None h = tt
     by (Some fault) h = ap (λ (r : Result X SettingsFault). r >>= f) h
-told_as {X} {Y} items (NotCompiled line) read f h = by (has_pattern_at items line) h
+told_as {X} {Y} items (NotCompiled line) read f h = by (has_line (pattern_lines items) line) h
   where
     by : (b : Bool) → Refuses {Y = X} {F = SettingsFault} (if b then None else Some (bad_pattern line)) read → Refuses {Y = Y} {F = SettingsFault} (if b then None else Some (bad_pattern line)) (read >>= f)
     by true h = tt

@@ -12,3 +12,4 @@ pub mod Settings
 pub mod Tables
 pub mod TargetOptions
 pub mod TopLevel
+pub mod Words

@@ -43,9 +43,12 @@ abbrev pub regex_from : RegexOptions → Item → Result Match SettingsFault
 regex_from r item =
     needs (not (length r.patterns == 0)) item (matches.Regex (record { patterns = r.patterns; invert = r.invert }))
 
+abbrev pub no_patterns : RegexOptions
+no_patterns = record { patterns = []; invert = false }
+
 abbrev pub regex_of : Item → Result Match SettingsFault
 regex_of item =
-    after_all (by_table regex_options) (record { patterns = []; invert = false }) (children_of item)
+    after_all (by_table regex_options) no_patterns (children_of item)
     >>= λ r. regex_from r item
 
 -- ---- timediff: a number that isn't 0

@@ -90,9 +90,12 @@ replace_options =
 abbrev pub replace_from : ReplaceOptions → Item → Result Target SettingsFault
 replace_from r item = needs (not (length r.replaces == 0)) item (targets.Replace r.replaces)
 
+abbrev pub no_replaces : ReplaceOptions
+no_replaces = record { replaces = [] }
+
 abbrev pub replace_of : Item → Result Target SettingsFault
 replace_of item =
-    after_all (by_table replace_options) (record { replaces = [] }) (children_of item)
+    after_all (by_table replace_options) no_replaces (children_of item)
     >>= λ r. replace_from r item
 
 -- ---- notification: a message that isn't empty

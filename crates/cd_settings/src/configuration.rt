@@ -1,7 +1,7 @@
 //! What all items of a configuration set, chains with them.
-ghost use Rattle.cd_conf.specs.Parts.{args_of, children_of};
+ghost use Rattle.cd_conf.specs.Parts.{args_of};
 ghost use Rattle.cd_reading.specs.Gives.{Gives};
-ghost use Rattle.cd_settings.specs.BigPatterns.{among, has_pattern_at, in_part, item_fault};
+ghost use Rattle.cd_settings.specs.BigPatterns.{chain_lines, item_fault, lines_given, pattern_lines};
 ghost use Rattle.cd_settings.specs.Forms as forms;
 ghost use Rattle.cd_settings.specs.Settings.{configuration_of};
 ghost use Rattle.cd_settings.specs.Tables.{given};
@@ -11,7 +11,7 @@ use crate::chains::chain_of;
 use crate::fault::ItemFault;
 use crate::forms::text;
 use crate::items::{needed, section};
-use crate::section::{Patterned, Section};
+use crate::section::Section;
 use crate::top_level::TopLevel;
 use cd_chain::Chains;
 use cd_conf::{Item, Items};
@@ -30,9 +30,9 @@ pub struct Configuration {
 impl Configuration {
     /// Puts a chain behind the others.
     fn add_chain(&mut self, alloc: Global, item: &Item) -> Result<(), ItemFault>
-        ensures { let changed = given item.now (forms.text (args_of item.now))
-            (with_chain self.old) in
-            let free = among in_part (children_of item.now) in
+        ensures { let name = forms.text (args_of item.now) in
+            let changed = given item.now name (with_chain self.old) in
+            let free = lines_given name chain_lines item.now in
             Gives (λ _. self.new) (item_fault free) result changed }
     {
         let name = needed(text(item), item)?;
@@ -44,27 +44,29 @@ impl Configuration {
     /// What items set.
     pub fn of(alloc: Global, items: &Items) -> Result<Configuration, ItemFault>
         ensures { let read = configuration_of items.now in
-            Gives (λ c. c) (item_fault (has_pattern_at items.now)) result read }
+            Gives (λ c. c) (item_fault (pattern_lines items.now)) result read }
     {
         let mut configuration = Configuration {
             top: TopLevel::start(alloc)?,
             chains: Sequence::new(alloc),
         };
-        configuration.read_all(alloc, items.as_slice())?;
+        configuration.take_all(alloc, items.as_slice())?;
         Ok(configuration)
     }
 }
 
-impl Patterned for Configuration {
-    ghost use Rattle.cd_settings.specs.BigPatterns.{in_chain};
+impl Section for Configuration {
+    ghost use Rattle.cd_settings.specs.BigPatterns.{in_configuration};
     ghost use Rattle.cd_settings.specs.Tables.{by_table_or};
     ghost use Rattle.cd_settings.specs.TopLevel.{chain_sections, within_top};
 
-    ghost outcome = { by_table_or within_top chain_sections };
+    type Fault = ItemFault;
 
-    ghost patterns = { in_chain };
+    ghost change = { by_table_or within_top chain_sections };
 
-    fn read(&mut self, alloc: Global, item: &Item) -> Result<(), ItemFault> {
+    ghost lines = { in_configuration };
+
+    fn take(&mut self, alloc: Global, item: &Item) -> Result<(), ItemFault> {
         by_table! { item, Ok(self.top.take(alloc, item)?);
             section "Chain" => self.add_chain(alloc, item),
         }

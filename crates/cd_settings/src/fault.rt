@@ -45,6 +45,11 @@ pub struct SettingsFault {
 }
 
 impl fmt::Display for SettingsKind {
+    ghost use Rattle.cd_settings.specs.Words.{settings_words};
+    ghost use Rattle.std.specs.Prelude.{Some};
+
+    ghost output = { λ kind. Some (settings_words kind) };
+
     fn fmt<W: fmt::Write>(&self, f: &mut fmt::Formatter<W>) -> fmt::Result {
         match self {
             SettingsKind::UnknownOption => f.write_str("unknown option"),

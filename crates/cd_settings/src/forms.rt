@@ -1,13 +1,12 @@
 //! The forms that the values of an option have.
 ghost use Rattle.cd_conf.specs.Parts.{args_of};
 ghost use Rattle.cd_settings.specs.Forms.{are_texts, between, delay, filled, flag, host, interval, is_any, is_host, is_text, number, off, one, perhaps_text, satisfy, severity, severity_of, some_number, text, texts, two_texts, whole};
-ghost use Rattle.cd_value.specs.Identifier.{has_control, has_slash};
 ghost use Rattle.std.specs.Option.{option_map};
 ghost use Rattle.std.specs.Prelude.{IfSome, option_copied, ◌≡◌, ◌≤◌};
 
 use cd_conf::{Arg, Item};
 use cd_text::{DURATION_LIMIT, to_time};
-use cd_value::{FIELD_LIMIT, Severity};
+use cd_value::{FIELD_LIMIT, Severity, has_control, has_slash};
 
 /// One value.
 pub fn one(item: &Item) -> Option<()>
@@ -52,18 +51,6 @@ pub fn texts(item: &Item) -> Option<()>
     } else {
         None
     }
-}
-
-fn has_control(text: &str) -> bool
-    ensures { result ≡ has_control text.now }
-{
-    text.bytes().any(|byte| byte < 32 || byte == 127)
-}
-
-fn has_slash(text: &str) -> bool
-    ensures { result ≡ has_slash text.now }
-{
-    text.bytes().any(|byte| byte == b'/')
 }
 
 /// Whether a text may be the host of an identifier.

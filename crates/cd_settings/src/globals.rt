@@ -11,6 +11,8 @@ impl Section for Globals {
     ghost use Rattle.cd_settings.specs.GlobalOptions.{global_options};
     ghost use Rattle.cd_settings.specs.Tables.{by_table};
 
+    type Fault = SettingsFault;
+
     ghost change = { by_table global_options };
 
     fn take(&mut self, alloc: Global, item: &Item) -> Result<(), SettingsFault> {

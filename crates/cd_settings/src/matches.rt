@@ -1,20 +1,20 @@
 //! The matches of filter chains.
-ghost use Rattle.cd_conf.specs.Parts.{args_of, children_of};
+ghost use Rattle.cd_conf.specs.Parts.{args_of};
 ghost use Rattle.cd_reading.specs.Gives.{Gives};
-ghost use Rattle.cd_settings.specs.BigPatterns.{among, begins_with_pattern, in_kind_of, is_pattern_at, item_fault};
+ghost use Rattle.cd_settings.specs.BigPatterns.{begins_with_pattern, item_fault, match_lines, option_line, regex_lines};
 ghost use Rattle.cd_settings.specs.Faults.{settings_fault};
 ghost use Rattle.cd_pattern.specs.Patterns.{is_pattern};
 ghost use Rattle.cd_settings.specs.Forms as forms;
 ghost use Rattle.cd_settings.specs.Forms.{text_list};
 ghost use Rattle.cd_settings.specs.MatchOptions.{empty_counter_of, match_of, pattern_of, regex_from, regex_of, timediff_of, value_of, with_pattern};
 ghost use Rattle.cd_settings.specs.Tables.{given, need};
-ghost use Rattle.std.specs.Prelude.{Some, ◌≡◌};
+ghost use Rattle.std.specs.Prelude.{◌≡◌};
 
 use crate::fault::{ItemFault, SettingsFault, SettingsKind};
 use crate::forms::{delay, flag, satisfy, some_number, text, texts};
 use crate::items::{at, childless, needed, needs, option, set, unknown};
 use crate::paths::push_texts;
-use crate::section::{Patterned, Section};
+use crate::section::Section;
 use cd_conf::Item;
 use cd_match::{CompiledPatterns, Match, RegexMatch, ValueMatch};
 use cd_pattern::{Field, Pattern, PatternFault};
@@ -43,7 +43,7 @@ pub struct TimeDiffOptions {
 pub fn compiled(alloc: Global, pattern: &str, item: &Item) -> Result<Pattern, ItemFault>
     requires { begins_with_pattern (args_of item.now) ≡ is_pattern pattern.now }
     ensures { let read = pattern_of item.now pattern.now in
-        Gives (λ pattern. pattern) (item_fault (is_pattern_at item.now)) result read }
+        Gives (λ pattern. pattern) (item_fault (option_line item.now read)) result read }
 {
     match Pattern::of(alloc, pattern) {
         Ok(pattern) => Ok(pattern),
@@ -57,7 +57,7 @@ impl RegexOptions {
     fn add(&mut self, alloc: Global, field: Field, item: &Item) -> Result<(), ItemFault>
         ensures { let changed = given item.now (forms.text (args_of item.now))
             (with_pattern field self.old) in
-            Gives (λ _. self.new) (item_fault (is_pattern_at item.now)) result changed }
+            Gives (λ _. self.new) (item_fault (option_line item.now changed)) result changed }
     {
         let pattern = needed(text(item), item)?;
         let pattern = compiled(alloc, pattern, item)?;
@@ -76,16 +76,18 @@ impl RegexOptions {
     }
 }
 
-impl Patterned for RegexOptions {
-    ghost use Rattle.cd_settings.specs.BigPatterns.{is_pattern_at};
+impl Section for RegexOptions {
+    ghost use Rattle.cd_settings.specs.BigPatterns.{option_lines};
     ghost use Rattle.cd_settings.specs.MatchOptions.{regex_options};
     ghost use Rattle.cd_settings.specs.Tables.{by_table};
 
-    ghost outcome = { by_table regex_options };
+    type Fault = ItemFault;
 
-    ghost patterns = { is_pattern_at };
+    ghost change = { by_table regex_options };
 
-    fn read(&mut self, alloc: Global, item: &Item) -> Result<(), ItemFault> {
+    ghost lines = { option_lines regex_options };
+
+    fn take(&mut self, alloc: Global, item: &Item) -> Result<(), ItemFault> {
         by_table! { item, Ok(unknown(item)?);
             option "Host" => self.add(alloc, Field::Host, item),
             option "Plugin" => self.add(alloc, Field::Plugin, item),
@@ -99,20 +101,21 @@ impl Patterned for RegexOptions {
 
 /// A match "regex".
 fn regex_of(alloc: Global, item: &Item) -> Result<Match, ItemFault>
-    ensures { let free = among is_pattern_at (children_of item.now) in
-        Gives (λ test. test) (item_fault free) result (regex_of item.now) }
+    ensures { Gives (λ test. test) (item_fault (regex_lines item.now)) result (regex_of item.now) }
 {
     let mut options = RegexOptions {
         patterns: Sequence::new(alloc),
         invert: false,
     };
-    options.read_all(alloc, item.children.as_slice())?;
+    options.take_all(alloc, item.children.as_slice())?;
     Ok(options.finish(item)?)
 }
 
 impl Section for TimeDiffOptions {
     ghost use Rattle.cd_settings.specs.MatchOptions.{timediff_options};
     ghost use Rattle.cd_settings.specs.Tables.{by_table};
+
+    type Fault = SettingsFault;
 
     ghost change = { by_table timediff_options };
 
@@ -154,6 +157,8 @@ impl Section for ValueMatch {
     ghost use Rattle.cd_settings.specs.MatchOptions.{value_options};
     ghost use Rattle.cd_settings.specs.Tables.{by_table};
 
+    type Fault = SettingsFault;
+
     ghost change = { by_table value_options };
 
     fn take(&mut self, alloc: Global, item: &Item) -> Result<(), SettingsFault> {
@@ -194,7 +199,8 @@ fn empty_counter_of(item: &Item) -> Result<Match, SettingsFault>
 /// A match of a kind.
 pub fn match_of(alloc: Global, kind: &str, item: &Item) -> Result<Match, ItemFault>
     ensures { let read = match_of kind.now item.now in
-        Gives (λ test. test) (item_fault (in_kind_of (Some kind.now) item.now)) result read }
+        let free = match_lines kind.now item.now in
+        Gives (λ test. test) (item_fault free) result read }
 {
     if kind == "regex" {
         regex_of(alloc, item)

@@ -51,6 +51,8 @@ impl Section for UnixSock {
     ghost use Rattle.cd_settings.specs.PluginOptions.{unixsock_options};
     ghost use Rattle.cd_settings.specs.Tables.{by_table};
 
+    type Fault = SettingsFault;
+
     ghost change = { by_table unixsock_options };
 
     fn take(&mut self, alloc: Global, item: &Item) -> Result<(), SettingsFault> {
@@ -89,6 +91,8 @@ impl Network {
 impl Section for Network {
     ghost use Rattle.cd_settings.specs.PluginOptions.{network_options};
     ghost use Rattle.cd_settings.specs.Tables.{by_table};
+
+    type Fault = SettingsFault;
 
     ghost change = { by_table network_options };
 

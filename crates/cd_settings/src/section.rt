@@ -1,58 +1,57 @@
 //! Sections, whose items change a state one after the other.
 ghost use Rattle.cd_conf.specs.declared.item.Item.{Item};
 ghost use Rattle.cd_reading.specs.Gives.{Gives};
-ghost use Rattle.cd_settings.specs.BigPatterns.{among, item_fault};
-ghost use Rattle.cd_settings.specs.Faults.{settings_fault};
+ghost use Rattle.cd_settings.specs.BigPatterns.{item_fault, lines_of_all};
 ghost use Rattle.cd_settings.specs.Tables.{after_all};
+ghost use Rattle.cd_settings.specs.declared.fault.ItemFault.{ItemFault};
 ghost use Rattle.cd_settings.specs.declared.fault.SettingsFault.{SettingsFault};
-ghost use Rattle.std.specs.Prelude.{Bool, Result, ℕ};
+ghost use Rattle.std.specs.Prelude.{List, Result, [], ℕ};
 
 use crate::fault::{ItemFault, SettingsFault};
 use cd_conf::Item;
 use std::alloc::Global;
 
+/// The fault of an item: of one that may have a pattern, or of one that has none.
+pub trait Told {
+    /// What the sections tell one another.
+    ghost told: { Self → ItemFault };
+}
+
+impl Told for SettingsFault {
+    ghost use Rattle.cd_settings.specs.declared.fault.ItemFault.TheVariants as faults;
+
+    ghost told = { λ fault. faults.Fault fault };
+}
+
+impl Told for ItemFault {
+    ghost told = { λ fault. fault };
+}
+
 /// What the items of a section change.
 pub trait Section {
+    /// What an item is refused with.
+    type Fault: Told;
+
     /// The state after an item, or the item's fault.
     ghost change: { Self → Item → Result Self SettingsFault };
 
+    /// The lines of the patterns that the reading of an item comes to.
+    ghost lines: { Self → Item → List ℕ } = { λ _ _. [] };
+
     /// Takes an item.
-    fn take(&mut self, alloc: Global, item: &Item) -> Result<(), SettingsFault>
+    fn take(&mut self, alloc: Global, item: &Item) -> Result<(), Self::Fault>
         ensures { let changed = change self.old item.now in
-            Gives (λ _. self.new) settings_fault result changed };
+            let free = lines self.old item.now in
+            Gives (λ _. self.new) (λ e. item_fault free (Self.Fault.told e)) result changed };
 
     /// Takes items one after the other, until the first fault.
-    final fn take_all(&mut self, alloc: Global, items: &[Item]) -> Result<(), SettingsFault>
+    final fn take_all(&mut self, alloc: Global, items: &[Item]) -> Result<(), Self::Fault>
         ensures { let changed = after_all change self.old items.now in
-            Gives (λ _. self.new) settings_fault result changed }
+            let free = lines_of_all change lines self.old items.now in
+            Gives (λ _. self.new) (λ e. item_fault free (Self.Fault.told e)) result changed }
     {
         for item in items {
             self.take(alloc, item)?;
-        }
-        Ok(())
-    }
-}
-
-/// What the items of a section change in which patterns may stand.
-pub trait Patterned {
-    /// The state after an item, or the item's fault.
-    ghost outcome: { Self → Item → Result Self SettingsFault };
-
-    /// Whether an option of an item that has a pattern stands at a line.
-    ghost patterns: { Item → ℕ → Bool };
-
-    /// Takes an item.
-    fn read(&mut self, alloc: Global, item: &Item) -> Result<(), ItemFault>
-        ensures { let changed = outcome self.old item.now in
-            Gives (λ _. self.new) (item_fault (patterns item.now)) result changed };
-
-    /// Takes items one after the other, until the first fault.
-    final fn read_all(&mut self, alloc: Global, items: &[Item]) -> Result<(), ItemFault>
-        ensures { let changed = after_all outcome self.old items.now in
-            Gives (λ _. self.new) (item_fault (among patterns items.now)) result changed }
-    {
-        for item in items {
-            self.read(alloc, item)?;
         }
         Ok(())
     }

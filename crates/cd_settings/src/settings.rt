@@ -111,9 +111,9 @@ impl Configuration {
 impl Settings {
     /// The settings that the items of a configuration make, as collectd.conf(5) has its options, or
     /// the first fault of the items and its line. Of a repeated option the last stands; TypesDB,
-    /// LoadPlugin and Listen add. A text that is a regular expression by its grammar may be told a bad
-    /// pattern, since it may be too big when it is compiled. The types are those that the configuration
-    /// names; no option asks for them yet.
+    /// LoadPlugin and Listen add. A bad pattern may also come at the line of an option whose text is a
+    /// regular expression by its grammar, where all items before it are in order, since it may be too big
+    /// when it is compiled. The types are those that the configuration names; no option asks for them yet.
     pub fn from_items(
         alloc: Global,
         items: &Items,

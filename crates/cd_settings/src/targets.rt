@@ -1,7 +1,7 @@
 //! The targets of filter chains.
-ghost use Rattle.cd_conf.specs.Parts.{args_of, children_of};
+ghost use Rattle.cd_conf.specs.Parts.{args_of};
 ghost use Rattle.cd_reading.specs.Gives.{Gives};
-ghost use Rattle.cd_settings.specs.BigPatterns.{among, in_kind_of, is_pattern_at, item_fault};
+ghost use Rattle.cd_settings.specs.BigPatterns.{item_fault, option_line, replace_lines, target_lines};
 ghost use Rattle.cd_settings.specs.Faults.{settings_fault};
 ghost use Rattle.cd_settings.specs.Forms as forms;
 ghost use Rattle.cd_settings.specs.Tables.{given};
@@ -12,7 +12,7 @@ use crate::fault::{ItemFault, SettingsFault, SettingsKind};
 use crate::forms::{filled, severity, text, two_texts};
 use crate::items::{add_text, at, childless, needed, needs, option, set, set_text, unknown};
 use crate::matches::compiled;
-use crate::section::{Patterned, Section};
+use crate::section::Section;
 use cd_conf::Item;
 use cd_pattern::Field;
 use cd_target::{Replaces, Replacing, Sets, Target};
@@ -62,6 +62,8 @@ impl Section for WriteOptions {
     ghost use Rattle.cd_settings.specs.Tables.{by_table};
     ghost use Rattle.cd_settings.specs.TargetOptions.{write_options};
 
+    type Fault = SettingsFault;
+
     ghost change = { by_table write_options };
 
     fn take(&mut self, alloc: Global, item: &Item) -> Result<(), SettingsFault> {
@@ -109,6 +111,8 @@ impl JumpOptions {
 impl Section for JumpOptions {
     ghost use Rattle.cd_settings.specs.Tables.{by_table};
     ghost use Rattle.cd_settings.specs.TargetOptions.{jump_options};
+
+    type Fault = SettingsFault;
 
     ghost change = { by_table jump_options };
 
@@ -162,6 +166,8 @@ impl Section for SetOptions {
     ghost use Rattle.cd_settings.specs.Tables.{by_table};
     ghost use Rattle.cd_settings.specs.TargetOptions.{set_options};
 
+    type Fault = SettingsFault;
+
     ghost change = { by_table set_options };
 
     fn take(&mut self, alloc: Global, item: &Item) -> Result<(), SettingsFault> {
@@ -190,7 +196,7 @@ impl ReplaceOptions {
     fn add(&mut self, alloc: Global, field: Field, item: &Item) -> Result<(), ItemFault>
         ensures { let changed = given item.now (forms.two_texts (args_of item.now))
             (with_replacing field self.old) in
-            Gives (λ _. self.new) (item_fault (is_pattern_at item.now)) result changed }
+            Gives (λ _. self.new) (item_fault (option_line item.now changed)) result changed }
     {
         let (pattern, with) = needed(two_texts(item), item)?;
         let pattern = compiled(alloc, pattern, item)?;
@@ -212,16 +218,18 @@ impl ReplaceOptions {
     }
 }
 
-impl Patterned for ReplaceOptions {
-    ghost use Rattle.cd_settings.specs.BigPatterns.{is_pattern_at};
+impl Section for ReplaceOptions {
+    ghost use Rattle.cd_settings.specs.BigPatterns.{option_lines};
     ghost use Rattle.cd_settings.specs.Tables.{by_table};
     ghost use Rattle.cd_settings.specs.TargetOptions.{replace_options};
 
-    ghost outcome = { by_table replace_options };
+    type Fault = ItemFault;
 
-    ghost patterns = { is_pattern_at };
+    ghost change = { by_table replace_options };
 
-    fn read(&mut self, alloc: Global, item: &Item) -> Result<(), ItemFault> {
+    ghost lines = { option_lines replace_options };
+
+    fn take(&mut self, alloc: Global, item: &Item) -> Result<(), ItemFault> {
         by_table! { item, Ok(unknown(item)?);
             option "Host" => self.add(alloc, Field::Host, item),
             option "Plugin" => self.add(alloc, Field::Plugin, item),
@@ -234,19 +242,20 @@ impl Patterned for ReplaceOptions {
 /// A target "replace".
 fn replace_of(alloc: Global, item: &Item) -> Result<Target, ItemFault>
     ensures { let read = replace_of item.now in
-        let free = among is_pattern_at (children_of item.now) in
-        Gives (λ target. target) (item_fault free) result read }
+        Gives (λ target. target) (item_fault (replace_lines item.now)) result read }
 {
     let mut options = ReplaceOptions {
         replaces: Sequence::new(alloc),
     };
-    options.read_all(alloc, item.children.as_slice())?;
+    options.take_all(alloc, item.children.as_slice())?;
     Ok(options.finish(item)?)
 }
 
 impl Section for NoticeOptions {
     ghost use Rattle.cd_settings.specs.Tables.{by_table};
     ghost use Rattle.cd_settings.specs.TargetOptions.{notice_options};
+
+    type Fault = SettingsFault;
 
     ghost change = { by_table notice_options };
 
@@ -283,7 +292,8 @@ fn bare(target: Target, item: &Item) -> Result<Target, SettingsFault>
 /// A target of a kind.
 pub fn target_of(alloc: Global, kind: &str, item: &Item) -> Result<Target, ItemFault>
     ensures { let read = target_of kind.now item.now in
-        Gives (λ target. target) (item_fault (in_kind_of (Some kind.now) item.now)) result read }
+        let free = target_lines kind.now item.now in
+        Gives (λ target. target) (item_fault free) result read }
 {
     if kind == "return" {
         Ok(bare(Target::Return, item)?)

@@ -132,6 +132,8 @@ impl Section for TopLevel {
     ghost use Rattle.cd_settings.specs.Tables.{by_table_or};
     ghost use Rattle.cd_settings.specs.TopLevel.{top_options, within_globals};
 
+    type Fault = SettingsFault;
+
     ghost change = { by_table_or within_globals top_options };
 
     fn take(&mut self, alloc: Global, item: &Item) -> Result<(), SettingsFault> {
