@@ -1,6 +1,7 @@
 -- What a list asks for and leaves that is put through the chains and the cache is what handling it does.
 use Rattle.cd_cache.specs.Cache.{CacheMap, updated}
 use Rattle.cd_chain.specs.Chains.{run_numbered}
+use Rattle.cd_chain.specs.declared.data.Action.TheVariants as actions
 use Rattle.cd_chain.specs.declared.data.Action.{Action}
 use Rattle.cd_chain.specs.declared.data.Chain.{Chain}
 use Rattle.cd_chain.specs.declared.data.Run.{Run}
@@ -11,11 +12,11 @@ use Rattle.cd_daemon.specs.declared.Rules.{Rules}
 use Rattle.cd_history.specs.Registrations.{Registration}
 use Rattle.cd_match.specs.Matches.{Scene}
 use Rattle.cd_serve.proofs.Performing.{fold-append}
-use Rattle.cd_serve.specs.Working.Passing.{Passage, asked_behind, passage_after, passage_of}
+use Rattle.cd_serve.specs.Working.Passing.{Passage, asked_behind, has_no_chain, passage_after, passage_of}
 use Rattle.cd_serve.specs.declared.passing.Behind.{Behind}
 use Rattle.cd_value.specs.declared.data.DataSet.{DataSet}
 use Rattle.cd_value.specs.declared.data.ValueList.{ValueList}
-use Rattle.std.proofs.Common.{Bool, List, None, Option, Some, ap, arith, false, length, nat_lt, refl, subst, sym, true, ℕ, ◌++◌, ◌<◌, ◌∙◌, ◌≡◌}
+use Rattle.std.proofs.Common.{Bool, List, None, Option, Some, [], ap, arith, false, is_some, length, nat_lt, not, refl, subst, sym, true, ℕ, ◌&&◌, ◌++◌, ◌<◌, ◌∙◌, ◌∷◌, ◌≡◌}
 
 module _ (rules : Rules) (regs : List Registration) (now : ℕ) (cache : CacheMap) where
   after_run-cache : (set : DataSet) (run : Run) → (after_run rules regs set now cache run).cache ≡ (passage_after rules set now cache run).cache
@@ -66,6 +67,17 @@ actions_there other scene chains list at number is within run ran =
     ap (λ (r : Run). r.actions) (ran ∙ sym (run_there other scene chains list at number is within))
 
 -- ---- the passage of a list
+
+-- without a chain it goes into the cache and is written to all
+pub passage_plain : (rules : Rules) (set : DataSet) (cache : CacheMap) (list : ValueList) (now : ℕ) → has_no_chain rules ≡ true
+    → passage_of (Some set) rules cache list now ≡ record { asked = actions.Write [] list ∷ []; cache = updated set list now cache }
+passage_plain rules set cache list now none = by rules.pre rules.post none
+  where
+    by : (pre post : Option ℕ) → (not (is_some pre) && not (is_some post)) ≡ true
+        → passage_of (Some set) (record rules { pre = pre; post = post }) cache list now ≡ record { asked = actions.Write [] list ∷ []; cache = updated set list now cache }
+    by None None e = refl
+    by None (Some number) e = absurd (cc)
+    by (Some number) post e = absurd (cc)
 
 module _ (rules : Rules) (set : DataSet) (cache : CacheMap) (list : ValueList) (now : ℕ) (run : Run) (is : run ≡ run_before rules (scene_of set cache now) list) where
   ran : passage_of (Some set) rules cache list now ≡ passage_after rules set now cache run

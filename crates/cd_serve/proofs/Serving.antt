@@ -177,32 +177,32 @@ module _ (begun : Seen) (opened : History) (lines : List Cut) (text : List ℕ) 
   abbrev at_moment_says : ℕ → Said
   at_moment_says moment = meaning begun.opening.types moment begun.opening.globals.interval bytes
 
-  obeyed : (said : Command) (answer : Reply) (new : Seen) → IsNotBlank bytes → at_moment_says now ≡ Ok said → IsOkAnd (at_moment_says 0) (IsSameButTimes said)
-      → ListsFit old.opening.types said → Obeys said answer (with_moment now old) new → HasServedOneMore h (Some bytes) (reply_text answer) new
+  obeyed : (said : Command) (answer : List ℕ) (new : Seen) → IsNotBlank bytes → at_moment_says now ≡ Ok said → IsOkAnd (at_moment_says 0) (IsSameButTimes said)
+      → ListsFit old.opening.types said → Obeys said answer (with_moment now old) new → HasServedOneMore h (Some bytes) answer new
   obeyed command.Blank answer new not is zero fit o = absurd (not begun.opening.types now begun.opening.globals.interval is)
   obeyed (command.PutVal lists) answer new not is zero fit o =
       let first = put_at_zero begun.opening.types bytes lists (at_moment_says 0) zero in
-      let A : Reply → Type 0 = λ a. HasServedOneMore h (Some bytes) (reply_text a) new in
+      let A : List ℕ → Type 0 = λ a. HasServedOneMore h (Some bytes) a new in
       subst A (sym o.0) (served_put begun opened lines text old h (Some bytes) now at lists first.0 new o.1 fit first.1 is)
   obeyed (command.GetVal id) answer new not is zero fit o =
       let first = some_command begun.opening.types bytes (command.GetVal id) (at_moment_says 0) zero in
-      let A : Reply → Type 0 = λ a. HasServedOneMore h (Some bytes) (reply_text a) new in
+      let A : List ℕ → Type 0 = λ a. HasServedOneMore h (Some bytes) a new in
       let S : Seen → Type 0 = λ s. HasServedOneMore h (Some bytes) (reply_text (found_reply (found_in old.opening.types (cached (name_of id) old.cache)))) s in
-      subst A (sym o.1) (subst S (sym o.0) (served_asked begun opened lines text old h (Some bytes) now at id (first.1 ∙ ap Ok (sym first.2))))
+      subst A (sym o.0) (subst S (sym o.1) (served_asked begun opened lines text old h (Some bytes) now at id (first.1 ∙ ap Ok (sym first.2))))
   obeyed command.ListVal answer new not is zero fit o =
       let first = some_command begun.opening.types bytes command.ListVal (at_moment_says 0) zero in
-      let A : Reply → Type 0 = λ a. HasServedOneMore h (Some bytes) (reply_text a) new in
+      let A : List ℕ → Type 0 = λ a. HasServedOneMore h (Some bytes) a new in
       let S : Seen → Type 0 = λ s. HasServedOneMore h (Some bytes) (reply_text (reply.Listed (rows_of old.cache))) s in
-      subst A (sym o.1) (subst S (sym o.0) (served_listed begun opened lines text old h (Some bytes) now at (first.1 ∙ ap Ok (sym first.2))))
+      subst A (sym o.0) (subst S (sym o.1) (served_listed begun opened lines text old h (Some bytes) now at (first.1 ∙ ap Ok (sym first.2))))
 
 module _ (old at_moment : Seen) (now : ℕ) (at : IfSome old.pairs.clock (λ pair. now ≡ pair.0)) (then : at_moment ≡ with_moment now old) where
   same_opening : at_moment.opening ≡ old.opening
   same_opening = ap (λ (s : Seen). s.opening) then
 
-  pub serves_command : (bytes : List ℕ) (said : Command) (answer : Reply) (new : Seen) → IsNotBlank bytes
+  pub serves_command : (bytes : List ℕ) (said : Command) (answer : List ℕ) (new : Seen) → IsNotBlank bytes
       → Gives (λ c. c) line_fault (Ok said) (meaning at_moment.opening.types now at_moment.opening.globals.interval bytes)
       → ((later other : ℕ) → IsOkAnd (meaning at_moment.opening.types later other bytes) (IsSameButTimes said))
-      → ListsFit at_moment.opening.types said → Obeys said answer at_moment new → Serves (Some bytes) (reply_text answer) old new
+      → ListsFit at_moment.opening.types said → Obeys said answer at_moment new → Serves (Some bytes) answer old new
   serves_command bytes said answer new not is zero fit o begun opened lines text h =
       obeyed begun opened lines text old h bytes now at said answer new not (along at_moment begun now bytes (Ok said) (same_opening ∙ h.opening) is)
       (let Z : Opening → Type 0 = λ K. IsOkAnd (meaning K.types 0 begun.opening.globals.interval bytes) (IsSameButTimes said) in subst Z (same_opening ∙ h.opening) (zero 0 begun.opening.globals.interval))
@@ -229,6 +229,20 @@ refuses_known fault read known is = let R : Option LineFault → Type 0 = λ f. 
 pub on_printed : {E : Type 0} (r : Result (List ℕ) E) (text : List ℕ) (line : Cut) (old new : Seen) → Serves line text old new → IfOk r (λ t. t ≡ text) → IfOk r (λ t. Serves line t old new)
 on_printed (Ok t) text line old new s is = let S : List ℕ → Type 0 = λ t. Serves line t old new in subst S (sym is) s
 on_printed (Err e) text line old new s is = tt
+
+pub on_obeyed : {E : Type 0} (r : Result (List ℕ) E) (said : Command) (line : Cut) (old at_moment new : Seen)
+    → ((answer : List ℕ) → Obeys said answer at_moment new → Serves line answer old new) → IfOk r (λ t. Obeys said t at_moment new) → IfOk r (λ t. Serves line t old new)
+on_obeyed (Ok t) said line old at_moment new serves o = serves t o
+on_obeyed (Err e) said line old at_moment new serves o = tt
+
+-- the text that was printed is that of a command's reply
+pub obeyed_text : {E : Type 0} (r : Result (List ℕ) E) (text : List ℕ) (said of : Command) (old new : Seen) → said ≡ of → Obeys of text old new
+    → IfOk r (λ t. t ≡ text) → IfOk r (λ t. Obeys said t old new)
+obeyed_text (Ok t) text said of old new is o same =
+    let C : Command → Type 0 = λ c. Obeys c t old new in
+    let T : List ℕ → Type 0 = λ t. Obeys of t old new in
+    subst C (sym is) (subst T (sym same) o)
+obeyed_text (Err e) text said of old new is o same = tt
 
 -- a line that is blank at each moment
 pub serves_blank_as : (old : Seen) (bytes : List ℕ) (line : Cut) (reply : List ℕ) → line ≡ Some bytes → reply ≡ []

@@ -1,4 +1,5 @@
 -- The steps of a daemon that works on a line.
+use Rattle.cd_cache.specs.Cache.{updated}
 use Rattle.cd_chain.specs.declared.data.Action.TheVariants as actions
 use Rattle.cd_chain.specs.declared.data.Action.{Action}
 use Rattle.cd_daemon.specs.Handling.{set_of}
@@ -13,14 +14,16 @@ use Rattle.cd_registry.specs.declared.calls.Call.TheVariants as calls
 use Rattle.cd_registry.specs.declared.calls.Call.{Call}
 use Rattle.cd_registry.specs.declared.plug.PlugTells.{PlugTells}
 use Rattle.cd_serve.proofs.Gifts.{gave_answers, gave_moment, one_more_word}
+use Rattle.cd_serve.proofs.Passages.{passage_plain}
 use Rattle.cd_serve.proofs.Performing.{flat_map-append}
 use Rattle.cd_serve.proofs.Shelves.{after_handling, run_handles, told-append, uncalled}
 use Rattle.cd_serve.specs.Working.Outside.{GaveUpTo, answers_given, called_first, called_in_order}
-use Rattle.cd_serve.specs.Working.Passing.{Passage, calls_asked, calls_by, is_asked, passage_of, writer_of}
-use Rattle.cd_serve.specs.Working.Progress.{HandlesOne, IsWorking, Performed, Rolled, Seen, WasCalled, passage_at, with_answer, with_cache, with_calls, with_moment, with_word}
+use Rattle.cd_serve.specs.Working.Passing.{Passage, calls_asked, calls_by, has_no_chain, is_asked, passage_of, writer_of}
+use Rattle.cd_serve.specs.Working.Progress.{HandlesOne, IsWorking, Passes, Performed, Rolled, Seen, WasCalled, passage_at, with_answer, with_cache, with_calls, with_moment, with_word}
 use Rattle.cd_transcript.specs.LineRuns.{OnShelf}
+use Rattle.cd_value.specs.declared.data.DataSet.{DataSet}
 use Rattle.cd_value.specs.declared.data.ValueList.{ValueList}
-use Rattle.std.proofs.Common.{Bool, Err, IfSome, List, Ok, OnOk, Option, Result, [], ap, append_assoc, arith, false, inl, inr, length-append, map, refl, subst, sym, true, ℕ, ◌++◌, ◌+◌, ◌∙◌, ◌∷◌, ◌≡◌}
+use Rattle.std.proofs.Common.{Bool, Err, IfSome, List, None, Ok, OnOk, Option, Result, Some, [], ap, append_assoc, arith, false, inl, inr, length-append, map, refl, subst, sym, true, ℕ, ◌++◌, ◌+◌, ◌∙◌, ◌∷◌, ◌≡◌}
 use Rattle.std.proofs.lemmas.List.{append-nil, map-append}
 use Rattle.std.specs.Option.{option_map}
 
@@ -147,33 +150,61 @@ performed_call names list old new t asked is (inr called) = record {
   seen = called.1 ∙ one_call (calls.Write list) called.0 old;
 }
 
--- ---- .. and so a list was handled
+-- ---- a list was put through the chains and the cache
 
-module _ (old at_moment passed mid new : Seen) (list : ValueList) (now : ℕ) (before behind : List Action) (asked_at : IfSome old.pairs.clock (λ pair. now ≡ pair.0))
-    (first : at_moment ≡ with_moment now old)
-    (second : passed ≡ with_cache (passage_at list now at_moment).cache at_moment) (asks : before ++ behind ≡ (passage_at list now at_moment).asked)
-    (third : Performed before passed mid) (fourth : Performed behind mid new) where
-  all : Performed (before ++ behind) passed new
-  all = performed_more before behind passed mid new third fourth
+module _ (old : Seen) (list : ValueList) (now : ℕ) where
+  -- .. with these actions before and behind the cache
+  pub passes : (mid between new : Seen) (before behind : List Action) → mid ≡ with_cache (passage_at list now old).cache old
+      → before ++ behind ≡ (passage_at list now old).asked → Performed before mid between → Performed behind between new → Passes list now old new
+  passes mid between new before behind cached asks first then =
+      let P : List Action → Type 0 = λ xs. Performed xs mid new in
+      record { mid = mid; cached = cached; performed = subst P asks (performed_more before behind mid between new first then) }
 
-  passed_is : passed ≡ with_cache (passage_at list now old).cache (with_moment now old)
-  passed_is = second ∙ ap (λ (s : Seen). with_cache (passage_at list now s).cache s) first
+  -- .. without a chain
+  pub passes_plainly : (set : DataSet) (names : List (List ℕ)) (mid new : Seen) → has_no_chain old.opening.rules ≡ true → set_of old.opening.types list ≡ Some set
+      → mid ≡ with_cache (updated set list now old.cache) old → names ≡ [] → Performed (actions.Write names list ∷ []) mid new → Passes list now old new
+  passes_plainly set names mid new none known cached all written =
+      let W : List (List ℕ) → Type 0 = λ names. Performed (actions.Write names list ∷ []) mid new in
+      let same : passage_at list now old ≡ record { asked = actions.Write [] list ∷ []; cache = updated set list now old.cache } =
+      ap (λ (of : Option DataSet). passage_of of old.opening.rules old.cache list now) known ∙ passage_plain old.opening.rules set old.cache list now none in
+      let P : List Action → Type 0 = λ xs. Performed xs mid new in
+      record {
+        mid = mid;
+        cached = cached ∙ ap (λ (p : Passage). with_cache p.cache old) (sym same);
+        performed = subst P (ap (λ (p : Passage). p.asked) (sym same)) (subst W all written);
+      }
 
-  asks_is : before ++ behind ≡ (passage_at list now old).asked
-  asks_is = asks ∙ ap (λ (s : Seen). (passage_at list now s).asked) first
+  -- one of an unknown type is left alone
+  pub passes_unknown : set_of old.opening.types list ≡ None → Passes list now old old
+  passes_unknown unknown =
+      let same : passage_at list now old ≡ record { asked = []; cache = old.cache } =
+      ap (λ (of : Option DataSet). passage_of of old.opening.rules old.cache list now) unknown in
+      let P : List Action → Type 0 = λ xs. Performed xs old old in
+      record {
+        mid = old;
+        cached = ap (λ (p : Passage). with_cache p.cache old) (sym same);
+        performed = subst P (ap (λ (p : Passage). p.asked) (sym same)) (performed_nothing old);
+      }
 
-  made : map (λ (c : AnsweredCall). c.call) all.answered ≡ calls_asked (writer_of old.writer old.shelf) (passage_at list now old).asked
-  made = all.calls
-      ∙ ap (λ (s : Seen). calls_asked (writer_of s.writer s.shelf) (before ++ behind)) passed_is
-      ∙ ap (λ (xs : List Action). calls_asked (writer_of old.writer old.shelf) xs) asks_is
+-- ---- .. and so it was handled
 
-  new_is : new ≡ with_calls all.answered (with_cache (passage_at list now old).cache (with_moment now old))
-  new_is = all.seen ∙ ap (λ (s : Seen). with_calls all.answered s) passed_is
+module _ (old at_moment new : Seen) (list : ValueList) (now : ℕ) (asked_at : IfSome old.pairs.clock (λ pair. now ≡ pair.0))
+    (first : at_moment ≡ with_moment now old) (passed : Passes list now at_moment new) where
+  passed_is : passed.mid ≡ with_cache (passage_at list now old).cache (with_moment now old)
+  passed_is = passed.cached ∙ ap (λ (s : Seen). with_cache (passage_at list now s).cache s) first
+
+  made : map (λ (c : AnsweredCall). c.call) passed.performed.answered ≡ calls_asked (writer_of old.writer old.shelf) (passage_at list now old).asked
+  made = passed.performed.calls
+      ∙ ap (λ (s : Seen). calls_asked (writer_of s.writer s.shelf) (passage_at list now at_moment).asked) passed_is
+      ∙ ap (λ (s : Seen). calls_asked (writer_of old.writer old.shelf) (passage_at list now s).asked) first
+
+  new_is : new ≡ with_calls passed.performed.answered (with_cache (passage_at list now old).cache (with_moment now old))
+  new_is = passed.performed.seen ∙ ap (λ (s : Seen). with_calls passed.performed.answered s) passed_is
 
   pub handles_one : HandlesOne list old new
   handles_one begun start given queue w =
       let W : Seen → Type 0 = IsWorking begun start given queue in
-      subst W (sym new_is) (handled_as begun start given list queue old now all.answered w asked_at made)
+      subst W (sym new_is) (handled_as begun start given list queue old now passed.performed.answered w asked_at made)
 
 pub rolled_nothing : (old : Seen) → Rolled 0 old old
 rolled_nothing old = record { words = []; many = refl; gave = refl; seen = seen_same }

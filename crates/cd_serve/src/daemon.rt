@@ -1,21 +1,22 @@
 //! The daemon of a run on one thread.
 ghost use Rattle.cd_cache.specs.Cache.{cached};
 ghost use Rattle.cd_daemon.specs.Answers.{found_in, source_names};
+ghost use Rattle.cd_daemon.specs.Handling.{set_of};
 ghost use Rattle.cd_dialogue.specs.declared.server.Next.TheVariants as nexts;
 ghost use Rattle.cd_history.specs.History.{History};
 ghost use Rattle.cd_history.specs.declared.given.Given.{Given};
-ghost use Rattle.cd_serve.specs.Working.Passing.{asked_behind, asked_by, is_asked, writer_of};
+ghost use Rattle.cd_serve.specs.Working.Passing.{asked_behind, asked_by, has_no_chain, is_asked, writer_of};
 ghost use Rattle.cd_serve.specs.Working.Progress.{HandlesAll, HandlesOne, IsNotBlank, IsServed, IsWorking, KeepsPlaces};
-ghost use Rattle.cd_serve.specs.Working.Progress.{Obeys, Performed, Puts, Rolled, Seen, Serves, WasCalled, passage_at};
+ghost use Rattle.cd_serve.specs.Working.Progress.{Obeys, Passes, Performed, Puts, Rolled, Seen, Serves, WasCalled, passage_at};
 ghost use Rattle.cd_serve.specs.Working.Progress.{seen_of, with_cache, with_moment, with_word};
 ghost use Rattle.cd_sock.specs.Faults.{line_fault};
 ghost use Rattle.cd_sock.specs.Lines.{content};
 ghost use Rattle.cd_transcript.specs.Transcripts.{found_reply};
 ghost use Rattle.cd_value.specs.declared.data.ValueList.{ValueList};
-ghost use Rattle.std.specs.Prelude.{IfOk, IfSome, List, OnOk, Some, [], false, map, ℕ, ◌∷◌, ◌≡◌};
+ghost use Rattle.std.specs.Prelude.{IfOk, IfSome, List, OnOk, Some, [], false, map, option_copied, true, ℕ, ◌∷◌, ◌≡◌};
 
 use crate::outside::Outside;
-use crate::passing::{Behind, Passed, pass};
+use crate::passing::{Behind, Passed, has_no_chain, pass};
 use cd_cache::{Cache, CacheEntry};
 use cd_chain::{Action, Actions};
 use cd_daemon::Rules;
@@ -23,9 +24,9 @@ use cd_dialogue::{Next, Response, Server};
 use cd_globals::Globals;
 use cd_history::{Given, Givens};
 use cd_registry::Call;
-use cd_sock::{Command, Line, LineFault, Reply, is_blank_line, print_reply};
+use cd_sock::{Command, Line, LineFault, Reply, is_blank_line, print_reply, print_rows};
 use cd_types::TypesDb;
-use cd_value::{DataSource, Lists, Memory, Names, Text, TryCopy, ValueList};
+use cd_value::{DataSet, DataSource, Lists, Memory, Names, Text, TryCopy, ValueList};
 use std::alloc::Global;
 
 /// The daemon: the types that it knows, the settings of the whole daemon, the filter chains, what it asks of the
@@ -92,7 +93,7 @@ impl<O: Outside> Daemon<O> {
             (seen_of O.outside_pairs O.outside_shelf self.old)) }
         ensures back { KeepsPlaces O.outside_shelf self.old self.new }
     {
-        match self.types.get(list.id.type_name.as_str()) {
+        match set_of(&self.types, &list) {
             Some(set) => pass(alloc, &mut self.rules, &mut self.cache, set, list, now),
             None => Ok(Passed::nothing(alloc)),
         }
@@ -176,6 +177,33 @@ impl<O: Outside> Daemon<O> {
         }
     }
 
+    /// Puts a list through the filter chains and the cache, and performs what that asks for.
+    fn filter(&mut self, alloc: Global, list: ValueList, now: u64) -> Result<(), Memory>
+        ensures ok { OnOk result (Passes list now
+            (seen_of O.outside_pairs O.outside_shelf self.old)
+            (seen_of O.outside_pairs O.outside_shelf self.new)) }
+        ensures back { KeepsPlaces O.outside_shelf self.old self.new }
+    {
+        let passed = self.pass(alloc, list, now)?;
+        self.perform_all(passed.before)?;
+        self.perform_behind(alloc, passed.behind)
+    }
+
+    /// Puts a list into the cache and writes it to all: so it passes where no chain is in force. The list is moved once.
+    fn store(&mut self, alloc: Global, list: ValueList, now: u64) -> Result<(), Memory>
+        requires none { has_no_chain self.old.rules ≡ true }
+        ensures ok { OnOk result (Passes list now
+            (seen_of O.outside_pairs O.outside_shelf self.old)
+            (seen_of O.outside_pairs O.outside_shelf self.new)) }
+        ensures back { KeepsPlaces O.outside_shelf self.old self.new }
+    {
+        let Some(set) = set_of(&self.types, &list) else {
+            return Ok(());
+        };
+        self.cache.update(alloc, &list, set, now)?;
+        self.write(&Names::new(alloc), list)
+    }
+
     /// Handles a list of the queue: it passes the filter chains and the cache, and what that asks for is performed.
     fn handle(&mut self, alloc: Global, list: ValueList) -> Result<(), Memory>
         ensures ok { OnOk result (HandlesOne list
@@ -184,9 +212,11 @@ impl<O: Outside> Daemon<O> {
         ensures back { KeepsPlaces O.outside_shelf self.old self.new }
     {
         let now = self.moment()?;
-        let passed = self.pass(alloc, list, now)?;
-        self.perform_all(passed.before)?;
-        self.perform_behind(alloc, passed.behind)
+        if has_no_chain(&self.rules) {
+            self.store(alloc, list, now)
+        } else {
+            self.filter(alloc, list, now)
+        }
     }
 
     /// Handles the lists of the queue in order.
@@ -228,26 +258,27 @@ impl<O: Outside> Daemon<O> {
         }
     }
 
-    /// Carries out a command, and gives its reply.
-    fn obey(&mut self, alloc: Global, command: Command) -> Result<Reply, Memory>
+    /// Carries out a command, and prints its reply.
+    fn obey(&mut self, alloc: Global, command: Command) -> Result<Text, Memory>
         ensures ok { IfOk result (λ reply. Obeys command reply
             (seen_of O.outside_pairs O.outside_shelf self.old)
             (seen_of O.outside_pairs O.outside_shelf self.new)) }
         ensures back { KeepsPlaces O.outside_shelf self.old self.new }
     {
         match command {
-            Command::Blank => Ok(Reply::Success),
+            Command::Blank => print_reply(alloc, &Reply::Success),
             Command::PutVal(lists) => {
                 self.put(alloc, lists)?;
-                Ok(Reply::Success)
+                print_reply(alloc, &Reply::Success)
             }
             Command::GetVal(id) => {
                 let name = id.name(alloc)?;
-                self.found(alloc, &name)
+                let reply = self.found(alloc, &name)?;
+                print_reply(alloc, &reply)
             }
             Command::ListVal => {
-                let rows = self.cache.rows(alloc)?;
-                Ok(Reply::Listed(rows))
+                let rows = self.cache.listed(alloc)?;
+                print_rows(alloc, rows.as_slice())
             }
         }
     }
@@ -262,10 +293,7 @@ impl<O: Outside> Daemon<O> {
     {
         let now = self.moment()?;
         match Command::read(alloc, line, &self.types, now, self.globals.interval) {
-            Ok(command) => {
-                let reply = self.obey(alloc, command)?;
-                print_reply(alloc, &reply)
-            }
+            Ok(command) => self.obey(alloc, command),
             Err(fault) => {
                 let reply = refusal(fault)?;
                 print_reply(alloc, &reply)
@@ -319,6 +347,13 @@ impl<O: Outside> Server for Daemon<O> {
             next: Next::GoOn,
         })
     }
+}
+
+/// The data set of a list, where its type is known.
+fn set_of<'a>(types: &'a TypesDb, list: &ValueList) -> Option<&'a DataSet>
+    ensures { option_copied result ≡ set_of types.now list.now }
+{
+    types.get(list.id.type_name.as_str())
 }
 
 /// The reply to a line with a fault; want of memory is none.

@@ -4,13 +4,11 @@ ghost use Rattle.cd_serve.specs.Promises.{PromisesLines};
 ghost use Rattle.cd_serve.specs.Shelf.{on_shelf, places};
 ghost use Rattle.cd_serve.specs.Started.{loads, opening_of};
 ghost use Rattle.cd_serve.specs.Working.Progress.{begun_with, seen_of, writes_first};
-ghost use Rattle.std.specs.List.{list_any};
 ghost use Rattle.std.specs.Prelude.{length, ◌≡◌, ◌≤◌};
-ghost use Rattle.std.specs.Str.{bytes_eq};
 
 use crate::daemon::Daemon;
 use crate::end::end_of;
-use crate::outside::{Around, Outside};
+use crate::outside::{Around, Outside, is_one_of};
 use crate::program::{INPUT_LIMIT, RanOf};
 use crate::{ShelvedOf, ShelvedProbeOf};
 use cd_cache::{Cache, HashKey};
@@ -32,20 +30,13 @@ fn is_reserved(name: &Text) -> bool
     matches!(name.as_str(), "threshold" | "unixsock" | "network")
 }
 
-/// Whether a name is among these.
-fn is_among(name: &str, names: &Names) -> bool
-    ensures { result ≡ list_any (λ other. bytes_eq other name.now) names.now }
-{
-    names.as_slice().iter().any(|other| other.as_str() == name)
-}
-
 /// Whether the plug-in of a name is loaded: without a file each is, with one those that it loads.
 fn is_loaded(file: &Option<Text>, loaded: &Names, name: &Text) -> bool
     ensures { result ≡ loads file.now loaded.now name.now }
 {
     match file {
         None => true,
-        Some(_) => is_among(name.as_str(), loaded),
+        Some(_) => is_one_of(name, loaded),
     }
 }
 

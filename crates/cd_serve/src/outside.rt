@@ -49,7 +49,7 @@ pub trait Outside: Drop {
 }
 
 /// Whether a name is one of these.
-fn is_one_of(name: &Text, names: &Names) -> bool
+pub(crate) fn is_one_of(name: &Text, names: &Names) -> bool
     ensures { result ≡ list_any (λ other. bytes_eq name.now other) names.now }
 {
     names

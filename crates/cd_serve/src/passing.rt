@@ -1,7 +1,7 @@
 //! Lists pass the filter chains and the cache, as collectd.conf(5) has it in "Filter configuration".
 ghost use Rattle.cd_chain.specs.Chains.{ended};
 ghost use Rattle.cd_daemon.specs.Handling.{is_stop, run_before, run_behind, scene_of};
-ghost use Rattle.cd_serve.specs.Working.Passing.{asked_behind, asked_by, passage_of};
+ghost use Rattle.cd_serve.specs.Working.Passing.{asked_behind, asked_by, has_no_chain, passage_of};
 ghost use Rattle.std.specs.Prelude.{IfOk, OnOk, Some, [], ◌≡◌};
 
 use cd_cache::Cache;
@@ -44,6 +44,13 @@ impl Passed {
     {
         Passed::stopped(alloc, Sequence::new(alloc))
     }
+}
+
+/// Whether no chain is in force.
+pub fn has_no_chain(rules: &Rules) -> bool
+    ensures { result ≡ has_no_chain rules.now }
+{
+    rules.pre.is_none() && rules.post.is_none()
 }
 
 /// The run of no rules: the list stays as it is, and goes on.

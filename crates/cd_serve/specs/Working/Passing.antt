@@ -15,7 +15,7 @@ use Rattle.cd_transcript.specs.LineRuns.{OnShelf}
 use Rattle.cd_value.specs.declared.data.DataSet.{DataSet}
 use Rattle.cd_value.specs.declared.data.ValueList.{ValueList}
 use Rattle.std.specs.List.{flat_map, list_any}
-use Rattle.std.specs.Prelude.{Bool, List, None, Option, Some, [], false, if◌then◌else◌, length, ℕ, ◌++◌, ◌==◌, ◌||◌, ◌∷◌}
+use Rattle.std.specs.Prelude.{Bool, List, None, Option, Some, [], false, if◌then◌else◌, is_some, length, not, ℕ, ◌&&◌, ◌++◌, ◌==◌, ◌||◌, ◌∷◌}
 use Rattle.std.specs.Str.{bytes_eq}
 
 -- the actions that are asked for, in order, and the cache then
@@ -36,6 +36,10 @@ abbrev pub passage_of : Option DataSet → Rules → CacheMap → ValueList → 
 passage_of None rules cache list now = record { asked = []; cache = cache }
 passage_of (Some set) rules cache list now =
     passage_after rules set now cache (run_before rules (scene_of set cache now) list)
+
+-- no chain is in force
+abbrev pub has_no_chain : Rules → Bool
+has_no_chain rules = not (is_some rules.pre) && not (is_some rules.post)
 
 -- ---- the actions by which a list was passed
 

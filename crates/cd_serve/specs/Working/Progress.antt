@@ -24,10 +24,10 @@ use Rattle.cd_serve.specs.Working.Standing.{RunsOn, registration_of}
 use Rattle.cd_serve.specs.declared.daemon.Daemon.{Daemon}
 use Rattle.cd_sock.specs.Lines.{Cut}
 use Rattle.cd_sock.specs.Meaning.{meaning}
+use Rattle.cd_sock.specs.Replies.{reply_text}
 use Rattle.cd_sock.specs.declared.command.Command.TheVariants as command
 use Rattle.cd_sock.specs.declared.command.Command.{Command}
 use Rattle.cd_sock.specs.declared.reply.Reply.TheVariants as replies
-use Rattle.cd_sock.specs.declared.reply.Reply.{Reply}
 use Rattle.cd_transcript.specs.LineRuns.{IsAsked, OnShelf, ServesLines, Works}
 use Rattle.cd_transcript.specs.Transcripts.{IsTranscript, found_reply, line_says, of_lines}
 use Rattle.cd_value.specs.Identifier.{name_of}
@@ -137,6 +137,12 @@ pub record Performed (asked : List Action) (old new : Seen) : Type 0 where
   pub calls : map (λ c. c.call) answered ≡ calls_asked (writer_of old.writer old.shelf) asked
   pub seen : new ≡ with_calls answered old
 
+-- a list was put through the filter chains and the cache at a moment, and what that asks for was performed
+pub record Passes (list : ValueList) (now : ℕ) (old new : Seen) : Type 0 where
+  pub mid : Seen
+  pub cached : mid ≡ with_cache (passage_at list now old).cache old
+  pub performed : Performed (passage_at list now old).asked mid new
+
 -- the first list of the queue was handled
 abbrev pub HandlesOne : ValueList → Seen → Seen → Type 0
 HandlesOne list old new = (begun : Seen) (start : History) (before : List Given) (queue : List ValueList)
@@ -153,13 +159,13 @@ pub record Puts (lists : List ValueList) (old new : Seen) : Type 0 where
   pub rolled : Rolled (length lists) old mid
   pub works : HandlesAll lists mid new
 
--- a command was carried out, and has this reply
-abbrev pub Obeys : Command → Reply → Seen → Seen → Type 0
-Obeys command.Blank reply old new = Unit {0}
-Obeys (command.PutVal lists) reply old new = (reply ≡ replies.Success) × Puts lists old new
-Obeys (command.GetVal id) reply old new =
-    (new ≡ old) × (reply ≡ found_reply (found_in old.opening.types (cached (name_of id) old.cache)))
-Obeys command.ListVal reply old new = (new ≡ old) × (reply ≡ replies.Listed (rows_of old.cache))
+-- a command was carried out, and this is the text of its reply
+abbrev pub Obeys : Command → List ℕ → Seen → Seen → Type 0
+Obeys command.Blank text old new = Unit {0}
+Obeys (command.PutVal lists) text old new = (text ≡ reply_text replies.Success) × Puts lists old new
+Obeys (command.GetVal id) text old new =
+    (text ≡ reply_text (found_reply (found_in old.opening.types (cached (name_of id) old.cache)))) × (new ≡ old)
+Obeys command.ListVal text old new = (text ≡ reply_text (replies.Listed (rows_of old.cache))) × (new ≡ old)
 
 -- a line was served with this reply
 abbrev pub Serves : Cut → List ℕ → Seen → Seen → Type 0
