@@ -1,21 +1,29 @@
-//! A run over five lines in memory, for want of memory: `bench/each-allocation` makes each of its allocations fail,
-//! one in each run. Its status is 0 where the run ended well: all lines were answered, or it ended with want of
+//! A run over five lines in memory with filter chains before and behind the cache, for want of memory:
+//! `bench/each-allocation` makes each of its allocations fail, one in each run. Its status is 0 where the run ended well: all lines were answered, or it ended with want of
 //! memory, what was said is a beginning of the replies, and the writer is back. It is 1 where it ended otherwise, and
 //! 2 where memory was lacking for what the run is given, or for keeping what it said.
 #![tactic(auto)]
 
 ghost use Rattle.std.specs.Prelude.{IfOk, length, ◌≤◌};
 
-use cd_io::{LinkPlan, MemLink, MemWorld};
+use cd_io::{LinkPlan, MemFile, MemLink, MemWorld};
 use cd_registry::{Kinds, Telling};
 use cd_serve::{End, RanOf, ShelvedOf, ShelvedProbeOf, run_of};
 use cd_value::{Memory, SECOND, Text};
 use std::alloc::Global;
 use std::process::ExitCode;
 
+/// The configuration. The chain before the cache replaces a field where a pattern is found in it; the one behind it writes
+/// a list, makes a notification, and writes the list to a named writer as another target left it.
+const CONFIGURATION: &str =
+    "TypesDB \"types.db\"\nLoadPlugin w\n<Chain \"PreCache\">\n<Rule>\n<Match \"regex\">\nPlugin \"^q\"\n</Match>\n<Target \"replace\">\nPlugin \"q\" \"p\"\n</Target>\n</Rule>\n</Chain>\n<Chain \"PostCache\">\nTarget \"write\"\n<Target \"notification\">\nMessage \"%{host}\"\n</Target>\n<Target \"jump\">\nChain \"x\"\n</Target>\n</Chain>\n<Chain \"x\">\n<Target \"set\">\nHost \"x\"\n</Target>\n<Target \"write\">\nPlugin \"w\"\n</Target>\n</Chain>\n";
+
+/// The types file.
+const TYPES: &str = "derive value:DERIVE:0:U\ngauge value:GAUGE:U:U\n";
+
 /// Five lines, one of them refused.
 const LINES: &str =
-    "PUTVAL h/p/derive interval=10 1000:5 1010:7\nGETVAL h/p/derive\nFOO\nPUTVAL h/p/gauge 1:1\nLISTVAL\n";
+    "PUTVAL h/q/derive interval=10 1000:5 1010:7\nGETVAL h/p/derive\nFOO\nPUTVAL h/p/gauge 1:1\nLISTVAL\n";
 
 /// What is written for them.
 const REPLIES: &str =
@@ -38,6 +46,9 @@ fn ends_well(alloc: Global) -> Result<bool, Memory> {
     let plugs = shelf(alloc)?;
     let probes: Vec<ShelvedProbeOf<()>> = Vec::new(alloc);
     let mut world = MemWorld::new(alloc, (2_000_000_000 * SECOND, SECOND), (5, 3));
+    for (path, text) in [("c", CONFIGURATION), ("types.db", TYPES)] {
+        world.add_file(MemFile::of(alloc, path, text.as_bytes())?)?;
+    }
     let lines = LINES.as_bytes().to_vec(alloc)?;
     let mut input = MemLink::new(alloc, lines, LinkPlan::new(alloc));
     let ran = run_of(
@@ -66,8 +77,9 @@ fn is_well(ran: &RanOf<Telling, ()>, output: &[u8]) -> bool {
 /// The words of the program.
 fn words(alloc: Global) -> Result<Vec<String>, Memory> {
     let mut words = Vec::new(alloc);
-    words.push(String::from_str(alloc, "collectd")?)?;
-    words.push(String::from_str(alloc, "--lines")?)?;
+    for word in ["collectd", "--lines", "-C", "c"] {
+        words.push(String::from_str(alloc, word)?)?;
+    }
     Ok(words)
 }
 
