@@ -4,7 +4,7 @@ ghost use Rattle.cd_registry.specs.Rows.{At, IsHomeFor, IsLive, IsPlugOut, IsPro
 ghost use Rattle.cd_registry.specs.Slots.{has_slot_kinds, is_slot_live_as, is_slot_ready, member_tells};
 ghost use Rattle.std.specs.List.{All};
 ghost use Rattle.std.specs.Option.{ok_or};
-ghost use Rattle.std.specs.Prelude.{IfErr, IfOk, IfSome, IsOk, OnErr, OnOk, [], filter, if◌then◌else◌, length, map, nat_le, position, slice_get, vec_len, ◌&&◌, ◌++◌, ◌<◌, ◌∷◌, ◌≡◌, ◌≢◌, ◌≤◌};
+ghost use Rattle.std.specs.Prelude.{IfErr, IfOk, IfSome, IsOk, IsTrue, OnErr, OnOk, [], filter, if◌then◌else◌, length, map, nat_le, position, slice_get, vec_len, ◌&&◌, ◌++◌, ◌<◌, ◌↔◌, ◌∷◌, ◌≡◌, ◌≢◌, ◌≤◌};
 ghost use Rattle.std.specs.Result.{result_err};
 ghost use Rattle.std.specs.Vec.{vec_capacity};
 ghost use Rattle.std.specs.VecDeque.{deque_capacity};
@@ -106,6 +106,14 @@ impl<P: Plug, Q: Probe> Registry<P, Q> {
         ensures spare { KeepsRoom self.old self.new }
     {
         self.slots[reg as usize].reserve(calls as usize)
+    }
+
+    /// Whether there is a registration of that number, and it is live.
+    pub fn is_live(&self, reg: u64) -> bool
+        ensures { IsTrue result ↔ At (rows P.plug_tells Q.probe_tells self.now) reg IsLive }
+    {
+        let at = reg as usize;
+        at < self.slots.len() && self.slots[at].live
     }
 
     /// The number of the live registration of a name, where it has all of these kinds.
