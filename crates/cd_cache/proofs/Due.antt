@@ -199,3 +199,13 @@ due_length timeout now entries index indexed sorted =
     subst (λ (n : ℕ). n ≤ length (lost_of now (cache_of timeout entries))) (length_names (due now index))
     (length-le_from_is_member (eq_by_cmp_equiv total) (names_in (due now index)) (lost_of now (cache_of timeout entries)) (distinct_due now index sorted (one_moment timeout entries index indexed))
     (λ q h. sym (due_is_lost timeout now entries index q indexed) ∙ h))
+
+-- .. and no more names are lost than pairs are due
+pub lost_length : (timeout now : ℕ) (entries : List (List ℕ × CacheEntry)) (index : Moments) → IsIndexOf timeout entries index
+    → length (lost_of now (cache_of timeout entries)) ≤ length (due now index)
+lost_length timeout now entries index indexed =
+    let lost : List (List ℕ) = lost_of now (cache_of timeout entries) in
+    subst (λ (n : ℕ). length lost ≤ n) (length_names (due now index))
+    (length-le_from_is_member (eq_by_cmp_equiv total) lost (names_in (due now index))
+    (IsDistinct-from_sorted name_order lost (sorted_lost timeout now (by_name entries) (sorted_by_name entries)))
+    (λ q h. due_is_lost timeout now entries index q indexed ∙ h))

@@ -7,11 +7,11 @@ use Rattle.std.specs.Prelude.{Bool, List, filter, map, nat_le, ℕ, ◌*◌, ◌
 abbrev pub expiry : ℕ → CacheEntry → ℕ
 expiry timeout entry = entry.arrival + timeout * entry.list.interval
 
--- whether it does at a moment
+-- whether an entry counts as missing at a moment
 abbrev pub is_lost : ℕ → ℕ → CacheEntry → Bool
 is_lost timeout now entry = nat_le (expiry timeout entry) now
 
--- the names among pairs whose entries do, in the order of the pairs
+-- the names among pairs whose entries count as missing, in the order of the pairs
 abbrev pub lost_among : ℕ → ℕ → List (List ℕ × CacheEntry) → List (List ℕ)
 lost_among timeout now entries =
     map (λ pair. pair.0) (filter (λ pair. is_lost timeout now pair.1) entries)

@@ -73,8 +73,8 @@ impl Cache {
 
     /// Puts a list of that data set under its name, with its rates against the list that is there,
     /// and `now`, in 2^-30 s, as the moment of its arrival. Where the list that is there is as new
-    /// or newer, the cache stays. There are rates for as many sources as the set and both lists
-    /// have.
+    /// or newer, or memory is lacking, the cache stays. There are rates for as many sources as the set
+    /// and both lists have.
     pub fn update(
         &mut self,
         alloc: Global,
@@ -184,13 +184,14 @@ impl Cache {
         self.lost_with(alloc, now, &mut 0)
     }
 
-    /// What `lost` answers. The number of names that were looked at is added to `looks`: at most one
-    /// more than are given.
+    /// What `lost` answers. The number of names that were looked at is added to `looks`, which is below
+    /// 2^63: as many as are given, or one more. Where memory is lacking `looks` stays.
     pub fn lost_with(&self, alloc: Global, now: u64, looks: &mut u64) -> Result<Names, Memory>
         requires { looks.old < 2 ^ 63 }
         ensures names { IfOk result (λ names. names ≡ lost_of now self.now) }
         ensures sorted { IfOk result (λ names. IsStrictlySortedBy name_order names) }
         ensures looks { IfOk result (λ names. looks.new ≤ looks.old + length names + 1) }
+        ensures added { IfOk result (λ names. looks.old + length names ≤ looks.new) }
         ensures err { OnErr result (looks.new ≡ looks.old) }
     {
         let found = self.index.lost(alloc, now)?;

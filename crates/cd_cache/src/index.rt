@@ -108,6 +108,7 @@ impl Index {
         ensures names { IfOk result (λ lost. (q : List ℕ) →
             has_name (map deref lost.0.keys) q ≡ has_name (names_in (due now self.now.pairs)) q) }
         ensures looks { IfOk result (λ lost. lost.1 ≤ length (due now self.now.pairs) + 1) }
+        ensures met { IfOk result (λ lost. length (due now self.now.pairs) ≤ lost.1) }
         ensures fits { IfOk result (λ lost. lost.1 < 2 ^ 63) }
         ensures pairs { IsStrictlySortedBy pair_order self.now.pairs }
     {

@@ -7,7 +7,7 @@ use Rattle.cd_opening.specs.Opened.{EndsBehind, HasSettingsFault, IsRefused, Lea
 use Rattle.cd_opening.specs.Types.{HasTypes, after_openings}
 use Rattle.cd_opening.specs.declared.fault.OpeningFault.{OpeningFault}
 use Rattle.cd_reading.specs.Gives.{Refuses}
-use Rattle.cd_settings.specs.BigPatterns.{IsTooBig, bad_pattern, has_pattern_at, told_of}
+use Rattle.cd_settings.specs.BigPatterns.{MayBeTooBig, bad_pattern, has_pattern_at, told_of}
 use Rattle.cd_settings.specs.Paths.{paths_of}
 use Rattle.cd_settings.specs.Settings.{settings_of}
 use Rattle.cd_settings.specs.declared.fault.SettingsFault.{SettingsFault}
@@ -49,7 +49,7 @@ settings_leave path files after items fault e ends is =
 
 -- what is told of the items is the first fault, or a pattern that may be too big, where memory wasn't lacking
 settings_come_at : (path : List ℕ) (files : Option (List FileTells)) (items : List Item) (kind : SettingsKind) (line : ℕ)
-    → ((settings_of items ≡ Err (record { kind = kind; line = line })) ⊎ IsTooBig items (record { kind = kind; line = line }) → HasSettingsFault path files (record { kind = kind; line = line }))
+    → ((settings_of items ≡ Err (record { kind = kind; line = line })) ⊎ MayBeTooBig items (record { kind = kind; line = line }) → HasSettingsFault path files (record { kind = kind; line = line }))
     → Refuses (told_of items (record { kind = kind; line = line })) (settings_of items) → IsRefused path files (of_settings_kind (record { kind = kind; line = line }) kind)
 settings_come_at path files items settings.Memory line has told = tt
 settings_come_at path files items settings.UnknownOption line has told = has (inl told)
@@ -64,7 +64,7 @@ settings_come_at path files items settings.ChainTooHeavy line has told = has (in
 settings_come_at path files items settings.BadPattern line has told = has (by (has_pattern_at items line) refl told)
   where
     by : (b : Bool) → has_pattern_at items line ≡ b → Refuses {Y = Settings} {F = SettingsFault} (if b then None else Some (bad_pattern line)) (settings_of items)
-        → (settings_of items ≡ Err (bad_pattern line)) ⊎ IsTooBig items (bad_pattern line)
+        → (settings_of items ≡ Err (bad_pattern line)) ⊎ MayBeTooBig items (bad_pattern line)
     by true free told = inr (refl, free)
     by false free told = inl told
 

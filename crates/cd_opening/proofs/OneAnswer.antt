@@ -10,7 +10,7 @@ use Rattle.cd_opening.specs.Types.{HasTypes, openings, types_of}
 use Rattle.cd_opening.specs.declared.fault.OpeningFault.TheVariants as faults
 use Rattle.cd_opening.specs.declared.fault.OpeningFault.{OpeningFault}
 use Rattle.cd_opening.specs.declared.opening.Opened.{Opened}
-use Rattle.cd_settings.specs.BigPatterns.{IsTooBig}
+use Rattle.cd_settings.specs.BigPatterns.{MayBeTooBig}
 use Rattle.cd_settings.specs.Paths.{paths_of}
 use Rattle.cd_settings.specs.Settings.{settings_of}
 use Rattle.cd_settings.specs.declared.fault.SettingsFault.{SettingsFault}
@@ -80,7 +80,7 @@ record Decided (path : List ℕ) (told : List FileTells) (a : Result Opened Open
   gives : answer path told read ≡ a
 
 -- a fault that is no pattern that may be too big is the first
-first : (items : List Item) (fault : SettingsFault) → (IsTooBig items fault → ⊥) → (settings_of items ≡ Err fault) ⊎ IsTooBig items fault → settings_of items ≡ Err fault
+first : (items : List Item) (fault : SettingsFault) → (MayBeTooBig items fault → ⊥) → (settings_of items ≡ Err fault) ⊎ MayBeTooBig items fault → settings_of items ≡ Err fault
 first items fault other refused =
     elim refused [
       | inl is ↦ is

@@ -7,7 +7,7 @@ use Rattle.cd_opening.specs.Types.{EndsAt, HasTypes, Reaches, after_openings}
 use Rattle.cd_opening.specs.declared.fault.OpeningFault.TheVariants as faults
 use Rattle.cd_opening.specs.declared.fault.OpeningFault.{OpeningFault}
 use Rattle.cd_opening.specs.declared.opening.Opened.{Opened}
-use Rattle.cd_settings.specs.BigPatterns.{IsTooBig}
+use Rattle.cd_settings.specs.BigPatterns.{MayBeTooBig}
 use Rattle.cd_settings.specs.Paths.{paths_of}
 use Rattle.cd_settings.specs.Settings.{settings_of}
 use Rattle.cd_settings.specs.declared.fault.SettingsFault.{SettingsFault}
@@ -33,19 +33,21 @@ module _ (path : List ℕ) (files : Option (List FileTells)) where
     pub read : HasItems path files items
     pub refused : HasTypes (paths_of items) left (Err fault)
 
-  -- so are the types files, and the items have this first fault, or their reading comes to a pattern that may be too big
+  -- so are the types files, and the items have this first fault, or their reading comes to a pattern that may be
+  -- too big
   pub record HasSettingsFault (fault : SettingsFault) : Type 0 where
     pub items : List Item
     pub read : HasItems path files items
     pub types : List DataSet
     pub known : HasTypes (paths_of items) left (Ok types)
-    pub refused : (settings_of items ≡ Err fault) ⊎ IsTooBig items fault
+    pub refused : (settings_of items ≡ Err fault) ⊎ MayBeTooBig items fault
 
-  -- a bad pattern at the line of a pattern to which the reading of the items comes: it may be too big when it is compiled
-  pub record HasBigPattern (fault : SettingsFault) : Type 0 where
+  -- a bad pattern at the line of a pattern to which the reading of the items comes: it may be too big when it is
+  -- compiled
+  pub record MayHaveBigPattern (fault : SettingsFault) : Type 0 where
     pub items : List Item
     pub read : HasItems path files items
-    pub big : IsTooBig items fault
+    pub big : MayBeTooBig items fault
 
   -- the text is a configuration, and the file at `at` is the next types file: those named before it are good
   pub record HasReached (at : List ℕ) : Type 0 where

@@ -7,8 +7,8 @@ ghost use Rattle.std.specs.Result.{IsOk};
 use cd_conf::each_text_has_one_tree;
 
 /// Where a world tells its files, what `open_configuration` answers of their texts is one answer: the whole, or a fault
-/// of a text. A bad pattern at the line of an option whose text is a pattern, where all items before it are in order, is
-/// none of these, since it may be too big when it is compiled.
+/// of a text. A bad pattern at the line of an option whose text is a pattern, where all items before it are in order,
+/// is none of these, since it may be too big when it is compiled.
 pub fn texts_have_one_answer()
     ensures { TextsHaveOneAnswer }
 {

@@ -7,7 +7,7 @@ use Rattle.cd_daemon.specs.declared.Rules.{Rules}
 use Rattle.cd_io.specs.Causes.{Counts, Rose}
 use Rattle.cd_io.specs.World.{FileTells, WorldTells}
 use Rattle.cd_opening.specs.File.{HasConfFault}
-use Rattle.cd_opening.specs.Opened.{ComesTo, HasBigPattern, HasSettingsFault, HasTypesFault, IsDefault}
+use Rattle.cd_opening.specs.Opened.{ComesTo, MayHaveBigPattern, HasSettingsFault, HasTypesFault, IsDefault}
 use Rattle.cd_opening.specs.declared.fault.OpeningFault.TheVariants as faults
 use Rattle.cd_opening.specs.declared.fault.OpeningFault.{OpeningFault}
 use Rattle.cd_opening.specs.declared.opening.Opened.{Opened}
@@ -112,5 +112,5 @@ AreRefused _ _ _ = ⊥
 -- the ends that no text decides
 abbrev pub IsFree : Option (List ℕ) → Option (List FileTells) → End → Type 0
 IsFree file files ends.Memory = Unit {0}
-IsFree (Some path) files (ends.SettingsFault fault) = HasBigPattern path files fault
+IsFree (Some path) files (ends.SettingsFault fault) = MayHaveBigPattern path files fault
 IsFree file files _ = ⊥

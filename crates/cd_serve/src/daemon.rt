@@ -189,7 +189,8 @@ impl<O: Outside> Daemon<O> {
         self.perform_behind(alloc, passed.behind)
     }
 
-    /// Puts a list into the cache and writes it to all: so it passes where no chain is in force. The list is moved once.
+    /// Puts a list into the cache and writes it to all: so it passes where no chain is in force. The list is moved
+    /// once.
     fn store(&mut self, alloc: Global, list: ValueList, now: u64) -> Result<(), Memory>
         requires none { has_no_chain self.old.rules ≡ true }
         ensures ok { OnOk result (Passes list now
@@ -266,7 +267,7 @@ impl<O: Outside> Daemon<O> {
         ensures back { KeepsPlaces O.outside_shelf self.old self.new }
     {
         match command {
-            Command::Blank => print_reply(alloc, &Reply::Success),
+            Command::Blank => Ok(Text::new(alloc)),
             Command::PutVal(lists) => {
                 self.put(alloc, lists)?;
                 print_reply(alloc, &Reply::Success)

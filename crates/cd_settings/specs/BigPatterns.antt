@@ -1,5 +1,5 @@
--- Where the reading of a configuration comes to a pattern of the grammar. One that is too big when it is compiled is a bad
--- pattern too, and its text doesn't tell that.
+-- Where the reading of a configuration comes to a pattern of the grammar. One that is too big when it is compiled is a
+-- bad pattern too, and its text doesn't tell that.
 use Rattle.cd_chain.specs.declared.data.Chain.{Chain}
 use Rattle.cd_chain.specs.declared.data.Rule.{Rule}
 use Rattle.cd_conf.specs.Parts.{args_of, children_of, line_of}
@@ -74,27 +74,27 @@ abbrev pub lines_given : {A : Type 0} → Option A → (A → Item → List ℕ)
 lines_given None lines item = []
 lines_given (Some x) lines item = lines x item
 
-abbrev pub in_rule : Rule → Item → List ℕ
-in_rule rule item =
+abbrev pub lines_in_rule : Rule → Item → List ℕ
+lines_in_rule rule item =
     if has_key (codes "Match") item then lines_given (text (args_of item)) match_lines item
     else (if has_key (codes "Target") item then lines_given (text (args_of item)) target_lines item
     else [])
 
 abbrev pub rule_lines : Item → List ℕ
-rule_lines item = lines_of_all (by_table rule_options) in_rule no_parts (children_of item)
+rule_lines item = lines_of_all (by_table rule_options) lines_in_rule no_parts (children_of item)
 
-abbrev pub in_chain : Chain → Item → List ℕ
-in_chain chain item =
+abbrev pub lines_in_chain : Chain → Item → List ℕ
+lines_in_chain chain item =
     if is_section_named (codes "Rule") item
-    then lines_given (perhaps_text (args_of item)) (λ named item. rule_lines item) item
+    then lines_given (perhaps_text (args_of item)) (λ _ item. rule_lines item) item
     else (if has_key (codes "Target") item then lines_given (text (args_of item)) target_lines item
     else [])
 
 abbrev pub chain_lines : List ℕ → Item → List ℕ
-chain_lines name item = lines_of_all (by_table chain_options) in_chain (named name) (children_of item)
+chain_lines name item = lines_of_all (by_table chain_options) lines_in_chain (named name) (children_of item)
 
-abbrev pub in_configuration : Configuration → Item → List ℕ
-in_configuration c item =
+abbrev pub lines_in_configuration : Configuration → Item → List ℕ
+lines_in_configuration c item =
     if is_section_named (codes "Chain") item then lines_given (text (args_of item)) chain_lines item else []
 
 -- ---- the whole
@@ -102,7 +102,7 @@ in_configuration c item =
 -- The lines of the patterns that the reading of a configuration comes to: all items before such an option are in order,
 -- the option is, and its text is a pattern.
 abbrev pub pattern_lines : List Item → List ℕ
-pattern_lines items = lines_of_all (by_table_or within_top chain_sections) in_configuration beginning items
+pattern_lines items = lines_of_all (by_table_or within_top chain_sections) lines_in_configuration beginning items
 
 abbrev pub has_line : List ℕ → ℕ → Bool
 has_line lines line = list_any (λ other. other == line) lines
@@ -134,5 +134,5 @@ abbrev pub told_of : List Item → SettingsFault → Option SettingsFault
 told_of items fault = unless_free (pattern_lines items) fault.kind fault
 
 -- a bad pattern at the line of a pattern to which the reading comes: it may be too big when it is compiled
-abbrev pub IsTooBig : List Item → SettingsFault → Type 0
-IsTooBig items fault = (fault.kind ≡ BadPattern) × IsTrue (has_pattern_at items fault.line)
+abbrev pub MayBeTooBig : List Item → SettingsFault → Type 0
+MayBeTooBig items fault = (fault.kind ≡ BadPattern) × IsTrue (has_pattern_at items fault.line)

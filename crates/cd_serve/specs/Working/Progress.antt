@@ -159,9 +159,9 @@ pub record Puts (lists : List ValueList) (old new : Seen) : Type 0 where
   pub rolled : Rolled (length lists) old mid
   pub works : HandlesAll lists mid new
 
--- a command was carried out, and this is the text of its reply
+-- a command was carried out, and this is the text of its reply; a blank line has none
 abbrev pub Obeys : Command → List ℕ → Seen → Seen → Type 0
-Obeys command.Blank text old new = Unit {0}
+Obeys command.Blank text old new = (text ≡ []) × (new ≡ old)
 Obeys (command.PutVal lists) text old new = (text ≡ reply_text replies.Success) × Puts lists old new
 Obeys (command.GetVal id) text old new =
     (text ≡ reply_text (found_reply (found_in old.opening.types (cached (name_of id) old.cache)))) × (new ≡ old)

@@ -1,6 +1,6 @@
 -- The names of the walk are those that are lost, and no more pairs were due.
 use Rattle.cd_cache.proofs.ByName.{cache_of, sorted_by_name}
-use Rattle.cd_cache.proofs.Due.{due_length, due_names}
+use Rattle.cd_cache.proofs.Due.{due_length, due_names, lost_length}
 use Rattle.cd_cache.proofs.Losses.{sorted_lost}
 use Rattle.cd_cache.proofs.Shown.{sorted_shown}
 use Rattle.cd_cache.proofs.cache.Cache.lost_with.Goals as goal
@@ -40,4 +40,14 @@ returns-clause-looks c =
     let told : length c.from_vec.result ≡ length lost = ap length (returns-clause-names c ∙ sym (ap (lost_of c.args.now) c.self.view_is)) in
     let due_once : length (due c.args.now index) ≤ length lost = due_length c.self.inside.timeout c.args.now entries index c.self.invariant.indexed c.lost.ensures.pairs in
     let met : c.in_ok-found.found.1 ≤ length (due c.args.now index) + 1 = c.in_ok-found.ensures.looks in
+    omega arith
+
+pub returns-clause-added : goal.returns-clause-added
+returns-clause-added c =
+    let entries = c.self.inside.entries.entries in
+    let index = c.self.inside.index.pairs in
+    let lost : List (List ℕ) = lost_of c.args.now (cache_of c.self.inside.timeout entries) in
+    let told : length c.from_vec.result ≡ length lost = ap length (returns-clause-names c ∙ sym (ap (lost_of c.args.now) c.self.view_is)) in
+    let lost_once : length lost ≤ length (due c.args.now index) = lost_length c.self.inside.timeout c.args.now entries index c.self.invariant.indexed in
+    let met : length (due c.args.now index) ≤ c.in_ok-found.found.1 = c.in_ok-found.ensures.met in
     omega arith

@@ -4,7 +4,7 @@ use Rattle.cd_cache.proofs.Shown.{has_put, or_false, or_move, shown_key}
 use Rattle.cd_cache.proofs.index.Index.lost.Goals as goal
 use Rattle.cd_cache.specs.Index.{due, has_name, names_in, pair_order}
 use Rattle.std.proofs.Common.{Bool, List, [], ap, arith, length, map, subst, suc, sym, ℕ, ◌<◌, ◌∙◌, ◌∷◌, ◌≡◌, ◌≤◌}
-use Rattle.std.proofs.lemmas.Map.Iter.{rest_more}
+use Rattle.std.proofs.lemmas.Map.Iter.{rest_all, rest_more}
 use Rattle.std.specs.List.Sorted.{IsStrictlySortedBy}
 use Rattle.std.specs.Map.Iter.{deref}
 use Rattle.std.specs.Prelude.{◌||◌}
@@ -17,6 +17,24 @@ returns-then-pair-from-clause-names c = λ q.
     let none : due c.args.now left ≡ [] = ap (due c.args.now) rest ∙ due_from_late c.args.now c.in-Some.pair.now c.next.new.self late (subst (IsStrictlySortedBy pair_order) rest c.loop-pair.invariant.ordered) in
     let had : Bool = has_name (map deref c.loop-pair.lost.keys) q in
     sym (or_false had) ∙ ap (λ (ps : List (ℕ × List ℕ)). had || has_name (names_in ps) q) (sym none) ∙ c.loop-pair.invariant.names q
+
+pub returns-then-pair-from-clause-met : goal.returns-then-pair-from-clause-met
+returns-then-pair-from-clause-met c =
+    let left = c.loop-pair.pair-iterator in
+    let rest : left ≡ c.in-Some.pair.now ∷ c.next.new.self = rest_more deref left c.next.new.self c.next.result c.in-Some.pair c.in-Some.is c.next.ensures.steps in
+    let late : c.args.now < c.in-Some.pair.now.0 = omega arith in
+    let none : length (due c.args.now left) ≡ 0 =
+        ap (λ (ps : List (ℕ × List ℕ)). length (due c.args.now ps)) rest
+        ∙ ap length (due_from_late c.args.now c.in-Some.pair.now c.next.new.self late (subst (IsStrictlySortedBy pair_order) rest c.loop-pair.invariant.ordered)) in
+    let met = c.loop-pair.invariant.found in
+    omega arith
+
+pub returns-clause-met : goal.returns-clause-met
+returns-clause-met c =
+    let left : c.loop-pair.pair-iterator ≡ [] = rest_all deref c.loop-pair.pair-iterator c.next.new.self c.next.result c.in-None.is c.next.ensures.steps in
+    let none : length (due c.args.now c.loop-pair.pair-iterator) ≡ 0 = ap (λ (ps : List (ℕ × List ℕ)). length (due c.args.now ps)) left in
+    let met = c.loop-pair.invariant.found in
+    omega arith
 
 pub loop-pair-preserved : goal.loop-pair-preserved
 loop-pair-preserved c =

@@ -2,12 +2,19 @@ use Rattle.cd_cache.specs.Cache.{cached}
 use Rattle.cd_daemon.specs.Answers.{found_in}
 use Rattle.cd_serve.proofs.Serving.{obeyed_text}
 use Rattle.cd_serve.proofs.daemon.Daemon.obey.Goals as goal
-use Rattle.cd_serve.specs.Working.Progress.{Seen, seen_of}
+use Rattle.cd_serve.specs.Working.Progress.{Obeys, Seen, seen_of}
 use Rattle.cd_sock.specs.Replies.{reply_text, shown}
 use Rattle.cd_sock.specs.declared.command.Command.TheVariants as command
+use Rattle.cd_sock.specs.declared.command.Command.{Command}
 use Rattle.cd_sock.specs.declared.reply.Reply.TheVariants as replies
 use Rattle.cd_transcript.specs.Transcripts.{found_reply}
-use Rattle.std.proofs.Common.{List, ap, refl, ℕ, ◌∙◌}
+use Rattle.std.proofs.Common.{List, ap, refl, subst, sym, ℕ, ◌∙◌}
+
+pub returns-in-Blank-clause-ok : goal.returns-in-Blank-clause-ok
+returns-in-Blank-clause-ok g c =
+    let old : Seen = seen_of g.O.Outside.outside_pairs g.O.Outside.outside_shelf c.args.self.now in
+    let C : Command → Type 0 = λ said. Obeys said c.new.result old old in
+    subst C (sym c.in-Blank.is) (c.new.ensures, refl)
 
 pub returns-in_ok-put-in-PutVal-clause-ok : goal.returns-in_ok-put-in-PutVal-clause-ok
 returns-in_ok-put-in-PutVal-clause-ok g c =
