@@ -24,8 +24,8 @@ returns-then-pair-from-clause-met c =
     let rest : left ≡ c.in-Some.pair.now ∷ c.next.new.self = rest_more deref left c.next.new.self c.next.result c.in-Some.pair c.in-Some.is c.next.ensures.steps in
     let late : c.args.now < c.in-Some.pair.now.0 = omega arith in
     let none : length (due c.args.now left) ≡ 0 =
-        ap (λ (ps : List (ℕ × List ℕ)). length (due c.args.now ps)) rest
-        ∙ ap length (due_from_late c.args.now c.in-Some.pair.now c.next.new.self late (subst (IsStrictlySortedBy pair_order) rest c.loop-pair.invariant.ordered)) in
+    ap (λ (ps : List (ℕ × List ℕ)). length (due c.args.now ps)) rest
+    ∙ ap length (due_from_late c.args.now c.in-Some.pair.now c.next.new.self late (subst (IsStrictlySortedBy pair_order) rest c.loop-pair.invariant.ordered)) in
     let met = c.loop-pair.invariant.found in
     omega arith
 
