@@ -19,8 +19,8 @@ returns-in-Blank-clause-ok g c =
 pub returns-in_ok-put-in-PutVal-clause-ok : goal.returns-in_ok-put-in-PutVal-clause-ok
 returns-in_ok-put-in-PutVal-clause-ok g c =
     let old : Seen = seen_of g.O.Outside.outside_pairs g.O.Outside.outside_shelf c.args.self.now in
-    obeyed_text c.print_reply-in-PutVal.result (reply_text replies.Success) c.args.command (command.PutVal c.in-PutVal.lists) old _ c.in-PutVal.is
-    (refl, c.in_ok-put-in-PutVal.ensures.ok) c.print_reply-in-PutVal.ensures.text
+    obeyed_text c.print_reply.result (reply_text replies.Success) c.args.command (command.PutVal c.in-PutVal.lists) old _ c.in-PutVal.is
+    (refl, c.in_ok-put-in-PutVal.ensures.ok) c.print_reply.ensures.text
 
 pub returns-in_ok-reply-in-GetVal-clause-ok : goal.returns-in_ok-reply-in-GetVal-clause-ok
 returns-in_ok-reply-in-GetVal-clause-ok g c =
