@@ -1,0 +1,17 @@
+pub mod Lists
+pub mod Legality
+pub mod Posted
+pub mod Fresh
+pub mod Rows
+pub mod FlushCounts
+pub mod Answering
+pub mod Standing
+pub mod Welcome
+pub mod Offered
+pub mod Named
+pub mod Previewed
+pub mod Room
+pub mod Handled
+pub mod Lasting
+pub mod FlushEnds
+pub mod Begun

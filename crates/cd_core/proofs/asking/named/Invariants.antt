@@ -1,0 +1,8 @@
+use Rattle.cd_core.proofs.asking.named.Given as goal
+use Rattle.cd_core.specs.Asked.{flusher_in}
+use Rattle.cd_registry.specs.Registry.{rows}
+use Rattle.std.proofs.Common.{map, take, ◌≡◌}
+
+abbrev pub invariant-loop-name : goal.invariant-loop-name
+invariant-loop-name g l =
+    l.plugins.items ≡ map (flusher_in (rows g.P.Plug.plug_tells g.Q.Probe.probe_tells l.registry)) (take l.name-index l.names)

@@ -1,0 +1,14 @@
+pub mod Flushes
+pub mod Calls
+pub mod Answers
+pub mod Legal
+pub mod Replies
+pub mod Seen
+pub mod UnderWay
+pub mod Posting
+pub mod Ahead
+pub mod Asked
+pub mod Prepared
+pub mod Objects
+pub mod Stands
+pub mod Steps

@@ -1,0 +1,57 @@
+//! Plug-ins that are out for a call.
+ghost use Rattle.cd_history.specs.History.{History};
+ghost use Rattle.cd_history.specs.declared.entry.Entry.TheVariants as entry;
+ghost use Rattle.cd_registry.specs.Rows.{At, IsPlugOut};
+ghost use Rattle.std.specs.Prelude.{IfSome, IsNone, None, ℕ, ◌≡◌};
+
+use crate::Core;
+use crate::flush::note_answer;
+use cd_registry::{EnteredOf, LeaseOf, Plug, Probe};
+
+impl<P: Plug, Q: Probe> Core<P, Q> {
+    ghost use Rattle.cd_core.specs.Answers.{ready};
+    ghost use Rattle.cd_core.specs.Objects.{IsEntered, IsLent};
+    ghost use Rattle.cd_core.specs.Seen.{seen};
+    ghost use Rattle.cd_core.specs.Stands.{Anyhow, Makes, Stands};
+    ghost use Rattle.cd_daemon.specs.declared.Opening.{Opening};
+    ghost use Rattle.cd_history.specs.History.{◌▸◌};
+
+    /// Takes the least registered plug-in that is at home and for which a call waits, with the oldest such call. The
+    /// actor is to enter it, and to give it back.
+    pub fn take(&mut self, actor: u64) -> Option<LeaseOf<P>>
+        ensures step { IfSome result (λ lease. Makes (seen P.plug_tells Q.probe_tells self.old)
+            (seen P.plug_tells Q.probe_tells self.new) Anyhow
+            (entry.Take actor lease.reg lease.call)) }
+        ensures lent { IfSome result (λ lease. (K : Opening) (H : History) →
+            Stands K (seen P.plug_tells Q.probe_tells self.old) H →
+            IsLent (H ▸ entry.Take actor lease.reg lease.call)
+            actor lease.reg lease.call (P.plug_tells lease.object)) }
+
+        ensures out { IfSome result (λ lease.
+            At (seen P.plug_tells Q.probe_tells self.new).rows lease.reg IsPlugOut) }
+
+        // There is none exactly where no plug-in is ready.
+        ensures none { IsNone result → (K : Opening) (H : History) →
+            Stands K (seen P.plug_tells Q.probe_tells self.old) H → ready K H ≡ None }
+        ensures same { IsNone result → seen P.plug_tells Q.probe_tells self.new
+            ≡ seen P.plug_tells Q.probe_tells self.old }
+    {
+        match self.registry.ready() {
+            Some(reg) => Some(self.registry.take(reg, actor)),
+            None => None,
+        }
+    }
+
+    /// Gives a plug-in home that was entered, with its answer.
+    pub fn done(&mut self, entered: EnteredOf<P>)
+        requires { At (seen P.plug_tells Q.probe_tells self.old).rows entered.reg IsPlugOut }
+        ensures { (actor : ℕ) → Makes (seen P.plug_tells Q.probe_tells self.old)
+            (seen P.plug_tells Q.probe_tells self.new)
+            (λ K H. IsEntered H actor entered.reg entered.call entered.answer
+            (P.plug_tells entered.object))
+            (entry.Done actor entered.reg entered.answer) }
+    {
+        note_answer(&mut self.flushes, &entered.call, entered.answer);
+        self.registry.give(entered);
+    }
+}
