@@ -5,12 +5,15 @@
 //!
 //! It takes 10,000 steps from a seed, prints how many there were of each kind, and ends with status 0. At the first
 //! step at which the two differ it prints that step's number and ends with status 1, for want of memory with status 2.
+//! At last it prints what is lost of 1,000 names, and how many were looked at for it.
 #![tactic(auto)]
 
 mod draw;
+mod losses;
 mod plain;
 mod walk;
 
+use losses::{COUNT, lost_at};
 use std::io;
 use std::process::ExitCode;
 use walk::{End, walk};
@@ -20,12 +23,29 @@ const SEED: u64 = 1;
 /// How many steps are taken.
 const STEPS: u64 = 10_000;
 
+/// Prints what is lost at 23 s, when the lists of three numbers are missing.
+fn tell_losses(rt: HostRuntime) -> io::Result<ExitCode> {
+    match lost_at(rt.alloc(), 23) {
+        Ok(found) => {
+            println!(rt;
+                "of {COUNT} names {} lost, {} looked at",
+                found.lost, found.looks
+            )?;
+            Ok(ExitCode::SUCCESS)
+        }
+        Err(_) => {
+            println!(rt; "no memory")?;
+            Ok(ExitCode::from(2))
+        }
+    }
+}
+
 fn main(rt: HostRuntime) -> io::Result<ExitCode> {
     match walk(rt.alloc(), SEED, STEPS) {
         Ok(End::Agreed(tally)) => {
             println!(rt; "{} lists stored, {} old", tally.stored, tally.old)?;
             println!(rt; "{} names removed, {} lost", tally.removed, tally.lost)?;
-            Ok(ExitCode::SUCCESS)
+            tell_losses(rt)
         }
         Ok(End::Differs(number)) => {
             println!(rt; "step {number} differs")?;
