@@ -1,7 +1,8 @@
 //! A run over five lines in memory with filter chains before and behind the cache, for want of memory:
-//! `bench/each-allocation` makes each of its allocations fail, one in each run. Its status is 0 where the run ended well: all lines were answered, or it ended with want of
-//! memory, what was said is a beginning of the replies, and the writer is back. It is 1 where it ended otherwise, and
-//! 2 where memory was lacking for what the run is given, or for keeping what it said.
+//! `bench/each-allocation` makes each of its allocations fail, one in each run. Its status is 0 where the run ended
+//! well: all lines were answered, or it ended with want of memory, what was said is a beginning of the replies, and the
+//! writer is back. It is 1 where it ended otherwise, and 2 where memory was lacking for what the run is given, or for
+//! keeping what it said.
 #![tactic(auto)]
 
 ghost use Rattle.std.specs.Prelude.{IfOk, length, ◌≤◌};
@@ -13,8 +14,8 @@ use cd_value::{Memory, SECOND, Text};
 use std::alloc::Global;
 use std::process::ExitCode;
 
-/// The configuration. The chain before the cache replaces a field where a pattern is found in it; the one behind it writes
-/// a list, makes a notification, and writes the list to a named writer as another target left it.
+/// The configuration. The chain before the cache replaces a field where a pattern is found in it; the one behind it
+/// writes a list, makes a notification, and writes the list to a named writer as another target left it.
 const CONFIGURATION: &str =
     "TypesDB \"types.db\"\nLoadPlugin w\n<Chain \"PreCache\">\n<Rule>\n<Match \"regex\">\nPlugin \"^q\"\n</Match>\n<Target \"replace\">\nPlugin \"q\" \"p\"\n</Target>\n</Rule>\n</Chain>\n<Chain \"PostCache\">\nTarget \"write\"\n<Target \"notification\">\nMessage \"%{host}\"\n</Target>\n<Target \"jump\">\nChain \"x\"\n</Target>\n</Chain>\n<Chain \"x\">\n<Target \"set\">\nHost \"x\"\n</Target>\n<Target \"write\">\nPlugin \"w\"\n</Target>\n</Chain>\n";
 
