@@ -3,7 +3,8 @@ use Rattle.cd_cache.proofs.ByName.{lookup_by_name, same_names, sorted_by_name, t
 use Rattle.cd_cache.proofs.Names.{itself}
 use Rattle.cd_cache.specs.Cache.{name_order}
 use Rattle.cd_cache.specs.Index.{AreNamesOf, by_name, found, has_name}
-use Rattle.cd_cache.specs.Rows.{row_of, shown}
+use Rattle.cd_cache.specs.Rows.{row_of}
+use Rattle.cd_value.specs.Rows.{as_rows}
 use Rattle.cd_cache.specs.declared.entry.CacheEntry.{CacheEntry}
 use Rattle.std.proofs.Common.{Bool, Bor, List, Option, Some, [], ap, ap₂, cond, false, map, refl, sym, true, ℕ, ◌++◌, ◌∙◌, ◌∷◌, ◌≡◌}
 use Rattle.std.proofs.lemmas.List.Elements.{All-contains_itself, All-head, All-tail, All-weaker}
@@ -58,7 +59,7 @@ rows_in_order entries =
 
 -- one more row
 pub one_more : (f : List ℕ → ℕ × List ℕ) (rows : List (ℕ × Bor (List ℕ))) (row : ℕ × Bor (List ℕ)) (names : List (List ℕ)) → (row.0, row.1.now) ≡ f row.1.now
-    → shown (rows ++ row ∷ []) ++ map f names ≡ shown rows ++ map f (row.1.now ∷ names)
+    → as_rows (rows ++ row ∷ []) ++ map f names ≡ as_rows rows ++ map f (row.1.now ∷ names)
 one_more f [] row names is = ap (λ (r : ℕ × List ℕ). r ∷ map f names) is
 one_more f (first ∷ rows) row names is = ap (λ (rs : List (ℕ × List ℕ)). (first.0, first.1.now) ∷ rs) (one_more f rows row names is)
 

@@ -2,7 +2,6 @@
 use Rattle.cd_cache.specs.Cache.{CacheMap}
 use Rattle.cd_cache.specs.declared.entry.CacheEntry.{CacheEntry}
 use Rattle.std.specs.Prelude.{List, map, ℕ}
-use denote.Ref.{Bor}
 
 abbrev pub row_of : List ℕ × CacheEntry → ℕ × List ℕ
 row_of pair = (pair.1.list.time, pair.0)
@@ -12,7 +11,3 @@ names_of rows = map (λ row. row.1) rows
 
 abbrev pub rows_of : CacheMap → List (ℕ × List ℕ)
 rows_of cache = map row_of cache.entries
-
--- the rows whose names are given by reference
-abbrev pub shown : List (ℕ × Bor (List ℕ)) → List (ℕ × List ℕ)
-shown rows = map (λ row. (row.0, row.1.now)) rows

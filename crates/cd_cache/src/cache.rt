@@ -2,7 +2,8 @@
 ghost use Rattle.cd_cache.specs.Cache.{KeepsOthers, cached, cached_rates, empty, entry_of, name_order, outcome, preview_of, updated, without};
 ghost use Rattle.cd_cache.specs.Index.{AreOrdersOf, found, has, is_same, kept, outcome_at};
 ghost use Rattle.cd_cache.specs.Lost.{expiry, lost_of};
-ghost use Rattle.cd_cache.specs.Rows.{names_of, rows_of, shown};
+ghost use Rattle.cd_cache.specs.Rows.{names_of, rows_of};
+ghost use Rattle.cd_value.specs.Rows.{as_rows};
 ghost use Rattle.cd_value.specs.Identifier.{name_of};
 ghost use Rattle.std.specs.List.Sorted.{IsStrictlySortedBy};
 ghost use Rattle.std.specs.Prelude.{IfOk, IfSome, IsNone, List, None, OnErr, OnOk, Some, cond, false, is_some, length, option_copied, true, ℕ, ◌+◌, ◌<◌, ◌^◌, ◌↔◌, ◌≡◌, ◌≤◌};
@@ -161,9 +162,9 @@ impl Cache {
     /// What `rows` answers, the time in 2^-30 s and the name of each entry in the order of the names'
     /// bytes, with the names by reference.
     pub fn listed(&self, alloc: Global) -> Result<Vec<(u64, &Text)>, Memory>
-        ensures rows { IfOk result (λ rows. shown rows.items ≡ rows_of self.now) }
+        ensures rows { IfOk result (λ rows. as_rows rows.items ≡ rows_of self.now) }
         ensures sorted { IfOk result
-            (λ rows. IsStrictlySortedBy name_order (names_of (shown rows.items))) }
+            (λ rows. IsStrictlySortedBy name_order (names_of (as_rows rows.items))) }
     {
         let names = self.index.names();
         let mut rows = Vec::with_capacity(alloc, names.len())?;

@@ -1,7 +1,7 @@
 //! Whether the cache answers as its definitions say: random updates, removals and ticks on a cache and on a plain list
-//! beside it, which have to agree after each. It stands on cd_cache, the values and `rand_xoshiro`; its handle is
-//! standard output. Read first `plain.rt`, the cache as a list that each call walks over. It keeps no state. A change
-//! begins at `walk.rt`, which has what steps there are.
+//! beside it, which have to agree after each. It stands on cd_cache, the plain list of cd_cache_plain, the values and
+//! `rand_xoshiro`; its handle is standard output. Read first `plain.rt` of cd_cache_plain, the cache as a list that each
+//! call walks over. It keeps no state. A change begins at `walk.rt`, which has what steps there are.
 //!
 //! It takes 10,000 steps from a seed, prints how many there were of each kind, and ends with status 0. At the first
 //! step at which the two differ it prints that step's number and ends with status 1, for want of memory with status 2.
@@ -10,7 +10,6 @@
 
 mod draw;
 mod losses;
-mod plain;
 mod walk;
 
 use losses::{COUNT, lost_at};

@@ -1,7 +1,7 @@
 //! Steps on a cache and on a plain list beside it.
 use crate::draw::{Draw, counters};
-use crate::plain::{Plain, PlainEntry, are_rates};
 use cd_cache::{Cache, HashKey, Updated};
+use cd_cache_plain::{Plain, PlainEntry, are_rates};
 use cd_value::{DataSet, Memory, Text, ValueList};
 use std::alloc::Global;
 

@@ -1,5 +1,6 @@
 -- What a step tells, carried to what stood before it and to the table as it was.
 use Rattle.std.proofs.Common.{◌≡◌, ℕ, ◌≤◌, List, [], ◌∷◌, ◌++◌, map, Option, None, Some, Result, Ok, Err, sym, ap, ◌∙◌, subst, arith}
+use Rattle.cd_value.specs.Identifier.{name_of}
 use Rattle.cd_value.specs.declared.data.ValueList.{ValueList}
 use Rattle.cd_value.specs.declared.memory.Memory.{Memory}
 use Rattle.cd_chain.specs.declared.data.Action.{Action}
@@ -11,7 +12,7 @@ use Rattle.cd_chain.specs.declared.evaluate.Evaluation.{Evaluation}
 use Rattle.cd_chain.specs.declared.frame.Frame.{Frame}
 use Rattle.cd_match.specs.Matches.{Scene}
 use Rattle.cd_chain.specs.Chains.{ended, out, run_numbered, weight}
-use Rattle.cd_chain.specs.Frames.{Goes, IsNearer, Told, after_actions, back, meaning, rest_of, resume, steps_at, steps_to_go}
+use Rattle.cd_chain.specs.Frames.{Goes, IsNearer, Told, after_actions, back, meaning, meets, next_place, rest_of, resume, steps_at, steps_to_go}
 use Rattle.cd_chain.proofs.Places.{starts}
 use Rattle.cd_chain.proofs.Steps.{on, steps}
 
@@ -26,6 +27,13 @@ nearer_by table m n e (Err memory) le near = tt
 
 pub nearer_on : (table other : List Chain) (m n : ℕ) (e : Evaluation) (r : Result (Option Verdict) Memory) → other ≡ table → m ≤ n → IsNearer other m e r → IsNearer table n e r
 nearer_on table other m n e r same le near = nearer_by table m n e r le (subst (λ (table : List Chain). IsNearer table m e r) same near)
+
+-- the next place, by the list as it is now
+pub place_of : (scene : Scene) (table : List Chain) (frame : Frame) (seen list : ValueList) (next place : Option Frame) → seen ≡ list
+    → next ≡ next_place (meets scene.set (scene.rates (name_of seen.id)) scene.now seen) table frame → next ≡ place
+    → next_place (meets scene.set (scene.rates (name_of list.id)) scene.now list) table frame ≡ place
+place_of scene table frame seen list next place same at is =
+    ap (λ (list : ValueList). next_place (meets scene.set (scene.rates (name_of list.id)) scene.now list) table frame) (sym same) ∙ sym at ∙ is
 
 -- the steps that are left at the next place
 pub steps_there : (scene : Scene) (table other : List Chain) (jump : List ℕ → ValueList → Run) (list : ValueList) (old popped : Evaluation) (frame here : Frame) → other ≡ table → old.frames.items ≡ popped.frames.items ++ frame ∷ [] → Goes scene jump list (rest_of table frame) (rest_of table here) → steps_at other popped (rest_of other here) ≤ steps_to_go table old

@@ -1,11 +1,12 @@
 -- What a chain does with a value list: a verdict, the list as it leaves it, and actions in order.
-use Rattle.std.specs.Prelude.{ℕ, zero, suc, ◌+◌, if◌then◌else◌, List, [], ◌∷◌, ◌++◌, length, slice_get, position, Option, None, Some}
+use Rattle.std.specs.Prelude.{ℕ, zero, suc, ◌+◌, if◌then◌else◌, List, [], ◌∷◌, ◌++◌, length, slice_get, position, Option, None, Some, unwrap_or}
 use Rattle.std.specs.List.{flat_map, sum_by}
 use Rattle.std.specs.Str.{bytes_eq}
 use Rattle.cd_value.specs.declared.data.ValueList.{ValueList}
 use Rattle.cd_chain.specs.declared.data.Action.{Action}
 use Rattle.cd_chain.specs.declared.data.Action.TheVariants as actions
 use Rattle.cd_chain.specs.declared.data.Chain.{Chain}
+use Rattle.cd_chain.specs.declared.data.Evaluated.{Evaluated}
 use Rattle.cd_chain.specs.declared.data.Rule.{Rule}
 use Rattle.cd_chain.specs.declared.data.Run.{Run}
 use Rattle.cd_target.specs.declared.target.Target.{Target}
@@ -130,3 +131,8 @@ weight table name = through chain_weight 0 table name
 abbrev pub run_numbered : Scene → List Chain → ℕ → ValueList → Run
 run_numbered scene table number list =
     step_or (run_chain scene) (ended Continue) (out scene table) (slice_get table number) list
+
+-- the run of a list that its owner keeps: where it was not changed, that list goes on
+abbrev pub run_of : ValueList → Evaluated → Run
+run_of list done =
+    record { verdict = done.verdict; list = unwrap_or done.changed list; actions = done.actions }

@@ -17,7 +17,7 @@ use Rattle.cd_value.specs.declared.memory.Memory.{Memory}
 use Rattle.cd_value.specs.declared.data.Rate.{Rate}
 use Rattle.cd_value.specs.declared.data.ValueList.{ValueList}
 use Rattle.std.specs.List.{flat_map, list_all, sum_by}
-use Rattle.std.specs.Prelude.{Bool, IfOk, List, MatchOption, None, Option, Result, Some, [], drop, if◌then◌else◌, length, map, nat_le, nat_lt, not, slice_get, ℕ, ◌&&◌, ◌++◌, ◌+◌, ◌-◌, ◌==◌, ◌∷◌, ◌<◌, ◌≡◌, ◌≤◌}
+use Rattle.std.specs.Prelude.{Bool, IfOk, List, MatchOption, None, Option, Result, Some, [], drop, if◌then◌else◌, length, map, nat_le, nat_lt, not, slice_get, unwrap_or, ℕ, ◌&&◌, ◌++◌, ◌+◌, ◌-◌, ◌==◌, ◌∷◌, ◌<◌, ◌≡◌, ◌≤◌}
 
 -- ---- places in a chain
 
@@ -125,16 +125,20 @@ abbrev pub steps_left : (List ℕ → ℕ) → List Rest → ℕ
 steps_left weight [] = 0
 steps_left weight (rest ∷ inner) = 1 + (rest_weight weight rest + rest_weight weight rest) + steps_left weight inner
 
+-- the list as it is now
+abbrev pub list_now : Evaluation → ValueList
+list_now e = unwrap_or e.changed e.given.now
+
 abbrev pub meaning : Scene → List Chain → Evaluation → Run
 meaning scene table e =
     after_actions e.actions
-    (back scene (out scene table) (map (rest_of table) e.frames.items) (ended Continue e.list))
+    (back scene (out scene table) (map (rest_of table) e.frames.items) (ended Continue (list_now e)))
 
 -- the same, where the innermost chain is at a place
 abbrev pub meaning_at : Scene → List Chain → Evaluation → Rest → Run
 meaning_at scene table e rest =
     after_actions e.actions
-    (back scene (out scene table) (map (rest_of table) e.frames.items) (resume scene (out scene table) rest e.list))
+    (back scene (out scene table) (map (rest_of table) e.frames.items) (resume scene (out scene table) rest (list_now e)))
 
 abbrev pub steps_to_go : List Chain → Evaluation → ℕ
 steps_to_go table e = steps_left (weight table) (map (rest_of table) e.frames.items)
@@ -156,7 +160,7 @@ abbrev pub Told : Scene → List Chain → Run → Evaluation → Result (Option
 Told scene table before e result =
     IfOk result (λ end. MatchOption end
     (before ≡ meaning scene table e)
-    (λ verdict. before ≡ record { verdict = verdict; list = e.list; actions = e.actions }))
+    (λ verdict. before ≡ record { verdict = verdict; list = list_now e; actions = e.actions }))
 
 -- it ended, or fewer steps are left
 abbrev pub IsNearer : List Chain → ℕ → Evaluation → Result (Option Verdict) Memory → Type 0

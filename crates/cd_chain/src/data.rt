@@ -1,7 +1,13 @@
 //! Chains, and what they leave.
+ghost use Rattle.cd_chain.specs.Chains.{ended, run_of};
+ghost use Rattle.cd_chain.specs.declared.data.Verdict.TheVariants.{Continue};
+ghost use Rattle.cd_value.specs.declared.data.ValueList.{ValueList};
+ghost use Rattle.std.specs.Prelude.{◌≡◌};
+
 use cd_match::Matches;
 use cd_target::Target;
-use cd_value::{Names, Notification, Sequence, Text, ValueList};
+use cd_value::{Memory, Names, Notification, Sequence, Text, TryCopy, ValueList};
+use std::alloc::Global;
 
 /// The targets of a rule, or the default targets of a chain, in order.
 pub type Targets = Sequence<Target>;
@@ -53,8 +59,29 @@ pub struct Run {
     pub actions: Actions,
 }
 
-/// Why a table of chains is refused. Chains and rules are called by their numbers.
+/// The same of a list that its owner keeps: there is another list only where a target of the chain may have changed it.
 #[derive(Drop)]
+pub struct Evaluated {
+    pub verdict: Verdict,
+    pub changed: Option<ValueList>,
+    pub actions: Actions,
+}
+
+impl Evaluated {
+    /// What there is without a chain: the list goes on as it is.
+    pub fn nothing(alloc: Global) -> Evaluated
+        ensures { (list : ValueList) → run_of list result ≡ ended Continue list }
+    {
+        Evaluated {
+            verdict: Verdict::Continue,
+            changed: None,
+            actions: Actions::new(alloc),
+        }
+    }
+}
+
+/// Why a table of chains is refused. Chains and rules are called by their numbers.
+#[derive(Drop, PartialEq, Eq)]
 pub enum ChainFault {
     /// The first chain whose name an earlier one has.
     Duplicate(u64),
@@ -70,4 +97,19 @@ pub enum ChainFault {
     TooHeavy(u64),
     /// Memory was lacking.
     Memory,
+}
+
+impl TryCopy for ChainFault {
+    fn copy(&self, alloc: Global) -> Result<ChainFault, Memory> {
+        match self {
+            ChainFault::Duplicate(chain) => Ok(ChainFault::Duplicate(*chain)),
+            ChainFault::EmptyRule(chain, rule) => Ok(ChainFault::EmptyRule(*chain, *rule)),
+            ChainFault::UnknownChain(chain, name) => {
+                Ok(ChainFault::UnknownChain(*chain, name.copy(alloc)?))
+            }
+            ChainFault::JumpCycle(walk) => Ok(ChainFault::JumpCycle(walk.copy(alloc)?)),
+            ChainFault::TooHeavy(chain) => Ok(ChainFault::TooHeavy(*chain)),
+            ChainFault::Memory => Ok(ChainFault::Memory),
+        }
+    }
 }

@@ -15,7 +15,9 @@ mod place;
 mod table;
 mod weigh;
 
-pub use data::{Action, Actions, Chain, ChainFault, Chains, Rule, Rules, Run, Targets, Verdict};
+pub use data::{
+    Action, Actions, Chain, ChainFault, Chains, Evaluated, Rule, Rules, Run, Targets, Verdict,
+};
 pub use laws::{jumps_do_what_chains_do, jumps_weigh_as_chains_do, nothing_else_does_so};
 pub use table::ChainTable;
 

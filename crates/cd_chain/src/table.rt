@@ -1,5 +1,5 @@
 //! Tables of chains that were accepted.
-ghost use Rattle.cd_chain.specs.Chains.{number_of, run_numbered};
+ghost use Rattle.cd_chain.specs.Chains.{number_of, run_numbered, run_of};
 ghost use Rattle.cd_chain.specs.Refusals.{IsFaultOf, TellsLeastWalk};
 ghost use Rattle.cd_chain.specs.Tables.{fault_of};
 ghost use Rattle.cd_match.specs.Matches.{Scene};
@@ -9,8 +9,8 @@ ghost use Rattle.std.specs.Prelude.{◌≡◌, ◌==◌, ◌<◌, length, IfOk, 
 use crate::accept::fault_of;
 use crate::evaluate::run_on;
 use crate::jumps::position_of;
-use crate::{Chain, ChainFault, Chains, Run};
-use cd_value::{DataSet, Memory, RateView, Refused, TryCopy, ValueList};
+use crate::{Chain, ChainFault, Chains, Evaluated};
+use cd_value::{DataSet, Memory, RateView, Refused, ValueList};
 use std::alloc::Global;
 use std::marker::Model;
 
@@ -83,8 +83,9 @@ impl ChainTable {
     }
 
     /// What the chain of a number does with a list that fits its data set: how it ends, the list as it is then, and
-    /// what is to be done, in order, as in collectd.conf(5), "Filter configuration". The view has the rates under each
-    /// name, in millionths; the moment is in 2^-30 s. The table stays as it was, also where `Memory` was lacking.
+    /// what is to be done, in order, as in collectd.conf(5), "Filter configuration". The list is copied at the first
+    /// target that rewrites it, and at each write. The view has the rates under each name, in millionths; the moment is
+    /// in 2^-30 s. The table stays as it was, also where `Memory` was lacking.
     pub fn run<V: RateView>(
         &mut self,
         alloc: Global,
@@ -93,35 +94,14 @@ impl ChainTable {
         set: &DataSet,
         view: &V,
         now: u64,
-    ) -> Result<Run, Memory>
+    ) -> Result<Evaluated, Memory>
         requires { chain < length self.old }
-        ensures run { IfOk result (λ run. let scene : Scene
+        ensures run { IfOk result (λ done. let scene : Scene
             = record { set = set.now; rates = V.rates_at view.now; now = now } in
-            run ≡ run_numbered scene self.old chain list.now) }
+            run_of list.now done ≡ run_numbered scene self.old chain list.now) }
 
         // A list that fitted its data set still does.
-        ensures keeps { IfOk result (λ run. Keeps list.now run.list) }
-        ensures same { self.new ≡ self.old }
-    {
-        let list = list.copy(alloc)?;
-        self.run_owned(alloc, chain, list, set, view, now)
-    }
-
-    /// What `run` does with a list that isn't needed any more, which is not copied.
-    pub fn run_owned<V: RateView>(
-        &mut self,
-        alloc: Global,
-        chain: u64,
-        list: ValueList,
-        set: &DataSet,
-        view: &V,
-        now: u64,
-    ) -> Result<Run, Memory>
-        requires { chain < length self.old }
-        ensures run { IfOk result (λ run. let scene : Scene
-            = record { set = set.now; rates = V.rates_at view.now; now = now } in
-            run ≡ run_numbered scene self.old chain list) }
-        ensures keeps { IfOk result (λ run. Keeps list run.list) }
+        ensures keeps { IfOk result (λ done. Keeps list.now (run_of list.now done).list) }
         ensures same { self.new ≡ self.old }
     {
         run_on(

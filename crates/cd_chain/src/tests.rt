@@ -71,8 +71,9 @@ fn long_row(rt: HostRuntime) -> Result<(), Fail> {
     assert!(rt; table.len() == 60);
     let list = list_of(alloc)?;
     let set = set_of(alloc)?;
-    let run = table.run(alloc, 0, &list, &set, &Nothing, 0)?;
-    assert_eq!(rt; run.verdict, Verdict::Continue);
-    assert_eq!(rt; run.actions.len(), 1);
+    let done = table.run(alloc, 0, &list, &set, &Nothing, 0)?;
+    assert_eq!(rt; done.verdict, Verdict::Continue);
+    assert!(rt; done.changed.is_none());
+    assert_eq!(rt; done.actions.len(), 1);
     Ok(())
 }

@@ -1,49 +1,40 @@
 -- What the registry answers by its rows, where these are the rows after a history, is the one-thread daemon's answer.
-use Rattle.cd_core.proofs.Fresh.{fresh}
-use Rattle.cd_core.proofs.Legality.{number_of, numbered}
-use Rattle.cd_core.proofs.Lists.{find_among, find_same, number_at}
-use Rattle.cd_core.specs.Answers.{may_be_taken, next_call, ready, retire_answer}
-use Rattle.cd_core.specs.Calls.{calls_to, pending, waiting_for}
-use Rattle.cd_core.specs.Flushes.{flusher_named}
-use Rattle.cd_core.specs.Legal.{IsLegal}
-use Rattle.cd_core.specs.Objects.{home_after, home_with, place_after, place_by}
-use Rattle.cd_core.specs.Replies.{as_register_fault, close_reply, register_refusal, register_reply, retire_reply}
+use Rattle.cd_daemon.proofs.Fresh.{fresh}
+use Rattle.cd_daemon.proofs.Legality.{number_of, numbered}
+use Rattle.cd_daemon.proofs.Lists.{find_among, number_at}
+use Rattle.cd_daemon.specs.Answers.{home_or_pending, may_be_taken, ready, register_answer, retire_answer}
+use Rattle.cd_daemon.specs.Calls.{calls_to, pending}
+use Rattle.cd_daemon.specs.Flushes.{flusher_named}
+use Rattle.cd_daemon.specs.Legal.{IsLegal}
+use Rattle.cd_core.specs.Objects.{home_with, place_after, place_by}
+use Rattle.cd_core.specs.Posting.{is_writer}
+use Rattle.cd_core.specs.Replies.{retire_reply}
 use Rattle.cd_core.specs.Stands.{row_after, rows_after}
-use Rattle.cd_core.specs.declared.faults.RegisterFault.TheVariants as register
-use Rattle.cd_core.specs.declared.faults.RegisterFault.{RegisterFault}
-use Rattle.cd_daemon.specs.Answers.{home_or_pending, register_answer}
 use Rattle.cd_daemon.specs.Performing.{writer_named}
 use Rattle.cd_daemon.specs.declared.Opening.{Opening}
 use Rattle.cd_history.specs.History.{History, is_stopped}
 use Rattle.cd_history.specs.Leases.{answered, taken_by, takes}
-use Rattle.cd_history.specs.Registrations.{Registration, has_kind, is_closed, is_plug, is_retired, is_text, kinds_joined, listeners, live, number_of_live, registrations}
+use Rattle.cd_history.specs.Registrations.{Registration, has_kind, is_closed, is_plug, is_retired, is_text, listeners, live, number_of_live, registrations}
 use Rattle.cd_history.specs.declared.entry.Joining.TheVariants.{Plug, Probe}
 use Rattle.cd_history.specs.declared.entry.Joining.{Joining}
 use Rattle.cd_history.specs.declared.entry.RegisterFault.TheVariants as refused
 use Rattle.cd_history.specs.declared.entry.RegisterFault.{RegisterFault as Refusal}
 use Rattle.cd_registry.proofs.Numbered.{numbers-numbered, position-numbered}
 use Rattle.cd_registry.proofs.Places.{count-map, numbers-map, position-map}
-use Rattle.cd_registry.specs.Faults.{add_fault, closed_fault, fault_of, is_reserved, named_fault, pending_fault, retire_fault, row_fault}
+use Rattle.cd_registry.specs.Faults.{add_fault, closed_fault, is_reserved, pending_fault, retire_fault, row_fault}
 use Rattle.cd_registry.specs.Rows.{Row, has_kinds, is_live_as, is_plug_home, is_ready, listening, live_count, live_number, live_number_with}
 use Rattle.cd_registry.specs.declared.faults.AddFault.TheVariants as add
 use Rattle.cd_registry.specs.declared.faults.AddFault.{AddFault}
 use Rattle.cd_registry.specs.declared.faults.RetireFault.TheVariants as held_back
 use Rattle.cd_registry.specs.declared.faults.RetireFault.{RetireFault}
 use Rattle.cd_registry.specs.declared.faults.TheConstants.{LIVE_LIMIT}
-use Rattle.cd_registry.specs.declared.kinds.Kinds.{Kinds}
 use Rattle.cd_registry.specs.declared.kinds.TheConstants.Kinds.{FLUSH, WRITE}
-use Rattle.cd_registry.specs.declared.place.Place.TheVariants.{PlugHome, PlugOut, ProbeHome, ProbeOut, Retired}
-use Rattle.cd_registry.specs.declared.place.Place.{Place}
-use Rattle.cd_registry.specs.declared.plug.PlugTells.{PlugTells}
-use Rattle.cd_registry.specs.declared.probe.ProbeTells.{ProbeTells}
-use Rattle.cd_value.specs.declared.memory.Refused.{Refused}
-use Rattle.std.proofs.Common.{Bool, Err, List, None, Ok, Option, Result, Some, [], ap, arith, bit_and, cond, drop, false, is_some, length, map, nat_eq, nat_le, not, refl, slice_get, subst, suc, sym, true, zero, ℕ, ◌&&◌, ◌+◌, ◌-◌, ◌<◌, ◌==◌, ◌∙◌, ◌∷◌, ◌≡◌, ◌≤◌, ◌||◌}
+use Rattle.std.proofs.Common.{Bool, Err, List, None, Ok, Option, Result, Some, [], ap, arith, cond, false, is_some, length, map, nat_eq, nat_le, not, refl, slice_get, suc, sym, true, zero, ℕ, ◌&&◌, ◌∙◌, ◌∷◌, ◌≡◌, ◌≤◌, ◌||◌}
 use Rattle.std.proofs.lemmas.List.{length-drop}
-use Rattle.std.proofs.lemmas.Option.{none-some, same_Some, slice_get-map, slice_get_cases}
+use Rattle.std.proofs.lemmas.Option.{none-some, same_Some, slice_get-map}
 use Rattle.std.specs.List.{filter, find, position}
 use Rattle.std.specs.Option.{option_map}
 use Rattle.std.specs.Result.{result_err}
-use Rattle.std.specs.Str.{bytes_eq}
 
 -- ---- who is looked for
 
@@ -81,11 +72,56 @@ and_assoc : (a b c : Bool) → ((a && b) && c) ≡ (a && (b && c))
 and_assoc true b c = refl
 and_assoc false b c = refl
 
-pub writer_is : (K : Opening) (P : History) (name : List ℕ) → live_number_with WRITE.0 name (rows_after K P) ≡ writer_named (live P) name
-writer_is K P name =
-    position_rows K P (λ row. is_live_as name row && has_kinds WRITE.0 row) (λ (g : Registration). not (is_closed g.number P) && (is_text g.name name && has_kind WRITE g))
-    (λ g. and_assoc (not (is_closed g.number P)) (is_text g.name name) (has_kind WRITE g))
-    ∙ ap (option_map number_of) (sym (find_among (λ (g : Registration). is_text g.name name && has_kind WRITE g) (λ (g : Registration). not (is_closed g.number P)) (registrations P)))
+-- ---- who is called with lists
+
+find_map : {A B : Type 0} (f : A → B) (p : B → Bool) (xs : List A) → find p (map f xs) ≡ option_map f (find (λ x. p (f x)) xs)
+find_map f p [] = refl
+find_map f p (x ∷ xs) = by (p (f x)) (find_map f p xs)
+  where
+    by : (b : Bool) → find p (map f xs) ≡ option_map f (find (λ y. p (f y)) xs)
+        → cond b (Some (f x)) (find p (map f xs)) ≡ option_map f (cond b (Some x) (find (λ y. p (f y)) xs))
+    by true rest = refl
+    by false rest = rest
+
+-- two tests that agree on each element find the same
+find_each : {A : Type 0} (p q : A → Bool) (xs : List A) → ((i : ℕ) (x : A) → slice_get xs i ≡ Some x → p x ≡ q x) → find p xs ≡ find q xs
+find_each p q [] same = refl
+find_each p q (x ∷ xs) same =
+    ap (λ b. cond b (Some x) (find p xs)) (same zero x refl)
+    ∙ ap (λ o. cond (q x) (Some x) o) (find_each p q xs (λ i y at. same (suc i) y at))
+
+asked_once : (lives named called : Bool) → (lives && (called && ((lives && named) && called))) ≡ (lives && (named && called))
+asked_once false named called = refl
+asked_once true true true = refl
+asked_once true true false = refl
+asked_once true false true = refl
+asked_once true false false = refl
+
+module _ (K : Opening) (P : History) (name : List ℕ) where
+  abbrev lives : Registration → Bool
+  lives g = not (is_closed g.number P)
+
+  abbrev has_name : Registration → Bool
+  has_name g = is_writer (rows_after K P) name g.number
+
+  -- the row of a registration is there
+  row_of_its_own : (i : ℕ) (g : Registration) → slice_get (registrations P) i ≡ Some g → slice_get (rows_after K P) g.number ≡ Some (row_after K P g)
+  row_of_its_own i g at =
+      let number : g.number ≡ i = number_at number_of (registrations P) i g (numbered P) at in
+      ap (slice_get (rows_after K P)) number ∙ slice_get-map (row_after K P) (registrations P) i ∙ ap (option_map (row_after K P)) at
+
+  -- among the writers the one of a name is found by the rows
+  pub writer_found : find (is_writer (rows_after K P) name) (listeners WRITE (live P)) ≡ writer_named (live P) name
+  writer_found =
+      find_map number_of (is_writer (rows_after K P) name) (filter (has_kind WRITE) (live P))
+      ∙ ap (option_map number_of)
+      (find_among has_name (has_kind WRITE) (live P)
+      ∙ find_among (λ (g : Registration). has_kind WRITE g && has_name g) lives (registrations P)
+      ∙ find_each (λ (g : Registration). lives g && (has_kind WRITE g && has_name g)) (λ (g : Registration). lives g && (is_text g.name name && has_kind WRITE g)) (registrations P)
+      (λ i g at.
+      ap (λ (o : Option Row). lives g && (has_kind WRITE g && elim o [ None ↦ false | Some row ↦ is_live_as name row && has_kinds WRITE.0 row ])) (row_of_its_own i g at)
+      ∙ asked_once (lives g) (is_text g.name name) (has_kind WRITE g))
+      ∙ sym (find_among (λ (g : Registration). is_text g.name name && has_kind WRITE g) lives (registrations P)))
 
 -- ---- who is flushed
 

@@ -2,30 +2,30 @@
 use Rattle.cd_core.proofs.Answering.{flusher_is, flushers_are}
 use Rattle.cd_core.proofs.FlushCounts.{flush_by}
 use Rattle.cd_core.proofs.Handled.{all_live, is_live, posted_same}
-use Rattle.cd_core.proofs.Lists.{all_filter}
-use Rattle.cd_core.proofs.Posted.{hold-flush}
-use Rattle.cd_core.proofs.Rows.{posted, rows_posted, rows_quiet}
+use Rattle.cd_daemon.proofs.Legality.{next_number}
+use Rattle.cd_daemon.proofs.Lists.{all_filter}
+use Rattle.cd_daemon.proofs.Posted.{hold-flush}
+use Rattle.cd_core.proofs.Rows.{rows_posted, rows_quiet}
 use Rattle.cd_core.proofs.Standing.{quiet}
-use Rattle.cd_core.specs.Answers.{flush_open_answer}
+use Rattle.cd_daemon.specs.Answers.{flush_open_answer}
 use Rattle.cd_core.specs.Asked.{flusher_in, plugins_in}
-use Rattle.cd_core.specs.Flushes.{counted, flush_answers, flush_calls, flush_calls_to, flush_missed, flush_posts, flushes_begun, flusher_named, names_meant, pairs_missed, plugins_meant, under_way}
-use Rattle.cd_core.specs.Legal.{IsLegal}
+use Rattle.cd_daemon.specs.Flushes.{counted, flush_answers, flush_calls, flush_calls_to, flush_missed, flush_posts, flushes_begun, flusher_named, names_meant, pairs_missed, plugins_meant, under_way}
+use Rattle.cd_daemon.specs.Legal.{IsLegal}
 use Rattle.cd_core.specs.Posting.{posted_live}
 use Rattle.cd_core.specs.Seen.{CoreSeen}
 use Rattle.cd_core.specs.Stands.{Anyhow, Makes, Stands, flush_after, flushes_after, rows_after}
 use Rattle.cd_core.specs.declared.flush.Flush.{Flush}
 use Rattle.cd_daemon.specs.Performing.{Post}
 use Rattle.cd_daemon.specs.declared.Opening.{Opening}
-use Rattle.cd_history.specs.History.{History, is_stopped, ◌▸◌}
-use Rattle.cd_history.specs.Registrations.{Registration, listeners, live}
+use Rattle.cd_history.specs.History.{History, ◌▸◌}
+use Rattle.cd_history.specs.Registrations.{listeners, live}
 use Rattle.cd_history.specs.declared.entry.Entry.TheVariants as entry
 use Rattle.cd_history.specs.declared.entry.FlushEnd.TheVariants as ends
 use Rattle.cd_history.specs.declared.entry.Stopping.{Stopping}
 use Rattle.cd_registry.specs.Rows.{Row, listening}
-use Rattle.cd_registry.specs.declared.calls.Answer.{Answer}
 use Rattle.cd_registry.specs.declared.kinds.TheConstants.Kinds.{FLUSH}
 use Rattle.cd_value.specs.declared.data.FlushRequest.{FlushRequest}
-use Rattle.std.proofs.Common.{Bool, Err, List, Ok, Option, Result, Some, [], ap, arith, cond, eq-eqb, false, is_some, length, map, nat_eq, nat_lt, not, refl, subst, sym, true, ℕ, ◌*◌, ◌++◌, ◌+◌, ◌-◌, ◌<◌, ◌∙◌, ◌∷◌, ◌≡◌}
+use Rattle.std.proofs.Common.{Bool, Err, List, Ok, Option, Result, Some, [], ap, arith, cond, eq-eqb, false, is_some, length, map, nat_eq, nat_lt, not, refl, subst, sym, true, ℕ, ◌*◌, ◌++◌, ◌+◌, ◌-◌, ◌∙◌, ◌∷◌, ◌≡◌}
 use Rattle.std.proofs.lemmas.Bool.{and_parts, lt-ltb, ltb-true, ne_eqb}
 use Rattle.std.proofs.lemmas.List.{map-append}
 use Rattle.std.specs.List.{filter, flat_map, list_all}
@@ -34,14 +34,6 @@ use Rattle.std.specs.List.{filter, flat_map, list_all}
 
 open_by : Bool → ℕ → Result ℕ Stopping
 open_by stopped n = cond stopped (Err (record {})) (Ok n)
-
-next_number : (P : History) (n : ℕ) → Ok n ≡ flush_open_answer P → n ≡ flushes_begun P
-unfolding open_by
-next_number P n is = by (is_stopped P) is
-  where
-    by : (stopped : Bool) → Ok n ≡ open_by stopped (flushes_begun P) → n ≡ flushes_begun P
-    by true is = absurd (cc)
-    by false is = cc
 
 below_more : (b n : ℕ) (fs : List ℕ) → list_all (λ f. nat_lt f b) fs ≡ true → n ≡ b → list_all (λ f. nat_lt f (b + 1)) (fs ++ n ∷ []) ≡ true
 below_more b n [] all is = let here : nat_lt n (b + 1) ≡ true = lt-ltb n (b + 1) (omega arith) in rw here refl

@@ -1,5 +1,5 @@
 -- The flushes under way after an entry, by those before it.
-use Rattle.cd_core.specs.Flushes.{counted, flush_answers, flush_calls, flush_errors, flush_missed, flush_successful, flush_unanswered, flush_of, is_call_of, is_done, is_number, under_way}
+use Rattle.cd_daemon.specs.Flushes.{counted, flush_answers, flush_calls, flush_missed, flush_of, is_call_of, is_done, is_number, under_way}
 use Rattle.cd_core.specs.Stands.{flush_after, flushes_after}
 use Rattle.cd_core.specs.UnderWay.{after_answer, after_answer_to, counted_as}
 use Rattle.cd_core.specs.declared.flush.Flush.{Flush}
@@ -8,10 +8,9 @@ use Rattle.cd_history.specs.Leases.{call_out}
 use Rattle.cd_history.specs.declared.entry.Entry.TheVariants as entry
 use Rattle.cd_registry.specs.declared.calls.Answer.{Answer}
 use Rattle.cd_registry.specs.declared.calls.Call.{Call}
-use Rattle.std.proofs.Common.{Bool, List, None, Option, Some, [], ap, arith, cond, false, length, length-append, map, min, nat_eq, not, refl, subst, sym, true, ℕ, ◌++◌, ◌+◌, ◌-◌, ◌^◌, ◌∙◌, ◌∷◌, ◌≡◌}
+use Rattle.std.proofs.Common.{Bool, List, None, Option, Some, [], ap, arith, cond, false, length, length-append, map, not, refl, sym, true, ℕ, ◌++◌, ◌+◌, ◌-◌, ◌∙◌, ◌∷◌, ◌≡◌}
 use Rattle.std.specs.List.{filter}
-use Rattle.cd_core.proofs.Lists.{filter_append, map_each}
-use Rattle.std.proofs.lemmas.List.{map-append}
+use Rattle.cd_daemon.proofs.Lists.{filter_append}
 
 -- how many there are with one more
 one_more : (test : Answer → Bool) (answers : List Answer) (answer : Answer) (b : Bool) → test answer ≡ b

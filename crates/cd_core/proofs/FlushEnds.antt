@@ -1,17 +1,17 @@
 -- The core stands for the history in which the counts of a flush were asked for.
 use Rattle.cd_core.proofs.Rows.{eq_sym, rows_quiet}
 use Rattle.cd_core.proofs.Standing.{quiet}
-use Rattle.cd_core.specs.Answers.{flush_close_answer}
-use Rattle.cd_core.specs.Flushes.{flush_begun_by, flush_errors, flush_successful, flush_unanswered, under_way}
+use Rattle.cd_daemon.specs.Answers.{flush_close_answer}
+use Rattle.cd_daemon.specs.Flushes.{flush_begun_by, flush_errors, flush_successful, flush_unanswered, under_way}
 use Rattle.cd_core.specs.Seen.{CoreSeen}
-use Rattle.cd_core.specs.Stands.{Makes, Stands, flush_after, flushes_after}
+use Rattle.cd_core.specs.Stands.{Makes, Stands, flush_after}
 use Rattle.cd_core.specs.declared.flush.Flush.{Flush}
 use Rattle.cd_daemon.specs.declared.Opening.{Opening}
-use Rattle.cd_history.specs.History.{History, ◌▸◌}
+use Rattle.cd_history.specs.History.{History}
 use Rattle.cd_history.specs.declared.entry.Entry.TheVariants as entry
 use Rattle.cd_history.specs.declared.entry.FlushEnd.TheVariants as ends
 use Rattle.cd_history.specs.declared.entry.FlushEnd.{FlushEnd}
-use Rattle.std.proofs.Common.{Bool, IfSome, List, None, Option, Some, [], ap, arith, cond, eq-eqb, false, map, nat_eq, not, refl, subst, sym, true, ℕ, ◌∙◌, ◌∷◌, ◌≡◌, ◌≢◌, ◌||◌}
+use Rattle.std.proofs.Common.{Bool, IfSome, List, None, Some, [], ap, cond, eq-eqb, false, map, nat_eq, not, refl, sym, true, ℕ, ◌∙◌, ◌∷◌, ◌≡◌, ◌≢◌, ◌||◌}
 use Rattle.std.proofs.lemmas.Bool.{eqb-true, ne_eqb}
 use Rattle.std.proofs.lemmas.Option.{none-some, same_Some}
 use Rattle.std.specs.List.{filter, find, list_any}

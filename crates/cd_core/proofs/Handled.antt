@@ -1,40 +1,37 @@
 -- The core stands for the history in which a list was handled.
 use Rattle.cd_cache.specs.Cache.{CacheMap}
-use Rattle.cd_core.proofs.Answering.{writer_is}
-use Rattle.cd_core.proofs.Legality.{handled_of_kept, number_of, numbered}
-use Rattle.cd_core.proofs.Lists.{first_left, number_at}
-use Rattle.cd_core.proofs.Posted.{hold-next}
+use Rattle.cd_core.proofs.Answering.{writer_found}
+use Rattle.cd_daemon.proofs.Legality.{number_of, numbered}
+use Rattle.cd_daemon.proofs.Lists.{first_left, number_at}
+use Rattle.cd_daemon.proofs.Posted.{hold-next}
 use Rattle.cd_core.proofs.Rows.{posted, rows_posted}
-use Rattle.cd_core.specs.Answers.{queued}
-use Rattle.cd_core.specs.Posting.{Finds, after_post_live, posted_live}
+use Rattle.cd_daemon.specs.Answers.{handle_answer}
+use Rattle.cd_core.specs.Posting.{Finds, after_post_live, is_writer, posted_live}
 use Rattle.cd_core.specs.Prepared.{prepared_cache, prepared_handling, prepared_how, prepared_posts, prepared_skipped}
 use Rattle.cd_core.specs.Seen.{CoreSeen}
 use Rattle.cd_core.specs.Stands.{Anyhow, Makes, Stands, row_after, rows_after}
 use Rattle.cd_core.specs.declared.prepared.Prepared.{Prepared}
-use Rattle.cd_daemon.specs.Answers.{handle_answer}
 use Rattle.cd_daemon.specs.Calls.{cache_after}
-use Rattle.cd_daemon.specs.Handling.{Handling, after_run, handling, handling_as, handling_if_any, next_handling, next_list, run_before, scene_of}
+use Rattle.cd_daemon.specs.Handling.{Handling, after_run, handling_as, handling_if_any, next_handling, next_list, run_before, scene_of}
 use Rattle.cd_daemon.specs.Performing.{Post}
 use Rattle.cd_daemon.specs.declared.Opening.{Opening}
 use Rattle.cd_daemon.specs.declared.Rules.{Rules}
 use Rattle.cd_history.specs.History.{History, handles, kept, ◌▸◌}
 use Rattle.cd_history.specs.Registrations.{Registration, is_closed, live, registrations}
 use Rattle.cd_history.specs.declared.entry.Entry.TheVariants as entry
-use Rattle.cd_history.specs.declared.entry.Handled.{Handled}
 use Rattle.cd_history.specs.declared.entry.How.TheVariants as hows
 use Rattle.cd_history.specs.declared.entry.How.{How}
 use Rattle.cd_queue.specs.Drops.{Limits}
-use Rattle.cd_registry.specs.Rows.{Row, after_post, live_number_with, with_row}
+use Rattle.cd_registry.specs.Rows.{Row, after_post, with_row}
 use Rattle.cd_registry.specs.declared.calls.Call.{Call}
-use Rattle.cd_registry.specs.declared.kinds.TheConstants.Kinds.{WRITE}
 use Rattle.cd_types.specs.Types.{set_named}
 use Rattle.cd_value.specs.declared.data.DataSet.{DataSet}
 use Rattle.cd_value.specs.declared.data.ValueList.{ValueList}
-use Rattle.std.proofs.Common.{Bool, List, None, Option, Some, [], ap, arith, cond, drop, false, length, map, not, refl, slice_get, subst, suc, sym, true, zero, ℕ, ◌++◌, ◌+◌, ◌<◌, ◌∙◌, ◌∷◌, ◌≡◌}
+use Rattle.std.proofs.Common.{Bool, List, None, Option, Some, [], ap, cond, drop, false, not, refl, slice_get, suc, sym, true, zero, ℕ, ◌+◌, ◌∙◌, ◌∷◌, ◌≡◌}
 use Rattle.std.proofs.lemmas.Bool.{and_parts}
 use Rattle.std.proofs.lemmas.List.{drop-drop}
 use Rattle.std.proofs.lemmas.Option.{none-some, slice_get-map, slice_get_within}
-use Rattle.std.specs.List.{filter, list_all}
+use Rattle.std.specs.List.{filter, find, list_all}
 use Rattle.std.specs.Option.{option_map}
 
 -- ---- calls to live registrations are posted as they are
@@ -116,7 +113,10 @@ rest_is v K P s = ap (drop 1) s.queue ∙ drop-drop 1 (handles P) (kept P)
 finds : (v : CoreSeen) (K : Opening) (P : History) → Stands K v P → Finds (live P) v.writers v.rows
 finds v K P s = record {
   all = s.writers;
-  named = λ name. ap (λ (rows : List Row). live_number_with WRITE.0 name rows) s.rows ∙ writer_is K P name;
+  named = λ name.
+      ap (λ (rows : List Row). find (is_writer rows name) v.writers) s.rows
+      ∙ ap (find (is_writer (rows_after K P) name)) s.writers
+      ∙ writer_found K P name;
 }
 
 -- the core once what handling does is done

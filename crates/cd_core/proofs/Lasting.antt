@@ -1,27 +1,29 @@
 -- Along lists of steps, and what lasts until a plug-in comes home.
-use Rattle.cd_core.proofs.Legality.{free, number_of, numbered, takeable}
-use Rattle.cd_core.proofs.Lists.{number_at}
+use Rattle.cd_daemon.proofs.Leaving.{idle_by}
+use Rattle.cd_daemon.proofs.Legality.{free, number_of, numbered, takeable}
+use Rattle.cd_daemon.proofs.Lists.{number_at}
 use Rattle.cd_core.proofs.Rows.{rows_quiet}
 use Rattle.cd_core.proofs.Standing.{quiet}
-use Rattle.cd_core.specs.Answers.{is_idle, retire_answer}
-use Rattle.cd_core.specs.Legal.{Allowed, IsLegal}
-use Rattle.cd_core.specs.Objects.{IsLent, TellsHome, home_after, home_with, place_after, place_by}
+use Rattle.cd_daemon.specs.Answers.{is_idle, ready, retire_answer}
+use Rattle.cd_daemon.specs.Legal.{Allowed, IsLegal}
+use Rattle.cd_core.specs.Objects.{IsLent, home_after, home_with, place_after, place_by}
 use Rattle.cd_core.specs.Seen.{CoreSeen}
 use Rattle.cd_core.specs.Stands.{Stands, row_after}
-use Rattle.cd_core.specs.Steps.{AllMay, AreSteps, Step, core_after, history_after, is_home_of}
+use Rattle.cd_core.specs.Steps.{AllMay, AreSteps, Step, core_after, history_after, is_brought_home_by, is_home_of}
 use Rattle.cd_daemon.specs.declared.Opening.{Opening}
 use Rattle.cd_history.specs.History.{Event, History, ◌▸◌}
-use Rattle.cd_history.specs.Leases.{answered, call_out, taken_by}
+use Rattle.cd_history.specs.Leases.{answered, taken_by}
+use Rattle.cd_history.specs.Order.{IsFrontOf}
 use Rattle.cd_history.specs.Registrations.{Registration, is_retired, registrations}
 use Rattle.cd_history.specs.declared.entry.Entry.TheVariants as entry
-use Rattle.cd_registry.specs.declared.calls.AnsweredCall.{AnsweredCall}
 use Rattle.cd_registry.specs.declared.calls.Call.{Call}
 use Rattle.cd_registry.specs.Rows.{At, IsPlugOut, Row}
-use Rattle.cd_registry.specs.declared.place.Place.TheVariants.{PlugHome, PlugOut}
+use Rattle.cd_registry.specs.declared.place.Place.TheVariants.{PlugOut}
 use Rattle.cd_registry.specs.declared.plug.PlugTells.{PlugTells}
-use Rattle.std.proofs.Common.{Bool, IsSomeAnd, IsTrue, List, None, Ok, Option, Some, [], ap, arith, cond, false, is_some, map, nat_eq, refl, slice_get, subst, suc, sym, true, zero, ℕ, ◌++◌, ◌∙◌, ◌∷◌, ◌≡◌, ◌||◌}
-use Rattle.std.proofs.lemmas.Bool.{eqb-true, ne_eqb}
-use Rattle.std.proofs.lemmas.Option.{none-some, slice_get-map}
+use Rattle.std.proofs.Common.{Bool, IsSomeAnd, IsTrue, List, None, Ok, Option, Some, [], ap, cond, eq-eqb, false, is_some, map, nat_eq, not, refl, slice_get, subst, suc, sym, true, zero, ℕ, ◌&&◌, ◌++◌, ◌∙◌, ◌∷◌, ◌≡◌, ◌||◌}
+use Rattle.std.proofs.lemmas.Bool.{and_from, and_parts, eqb-true, ne_eqb, not-true}
+use Rattle.std.proofs.lemmas.Option.{none-some, same_Some, slice_get-map}
+use Rattle.std.specs.List.{list_all}
 use Rattle.std.specs.Option.{option_map}
 
 pub steps_stand : (K : Opening) (core : CoreSeen) (P : History) (steps : List Step) → Stands K core P → AreSteps core steps → AllMay K P steps
@@ -85,6 +87,41 @@ module _ (K : Opening) (P : History) (actor reg : ℕ) (call : Call) (told : Plu
     out_for = lent.out_for;
     told_home = record { registration = lent.told_home.registration; registered = lent.told_home.registered; tells = lent.told_home.tells };
   }
+
+-- ---- .. along a history
+
+-- nobody else brings it home
+other_home : (K : Opening) (P : History) (actor reg : ℕ) (call : Call) (told : PlugTells) (e : Event) → Allowed K P e → IsLent P actor reg call told → is_brought_home_by actor reg e ≡ false → is_home_of reg e ≡ false
+other_home K P actor reg call told (entry.Done a n answer) may lent other = by (nat_eq n reg) refl
+  where
+    by : (b : Bool) → nat_eq n reg ≡ b → b ≡ false
+    by true is =
+        let T : ℕ → Type 0 = λ m. taken_by m P ≡ Some a in
+        let same : a ≡ actor = same_Some a actor (sym (subst T (eqb-true n reg is) may) ∙ lent.with_actor) in
+        let both : (nat_eq a actor && nat_eq n reg) ≡ true = and_from (nat_eq a actor) (nat_eq n reg) (eq-eqb a actor same) is in
+        let never : true ≡ false = sym both ∙ other in
+        absurd (cc)
+    by false is = refl
+other_home K P actor reg call told e may lent other = refl
+
+pub stays_out_along : (K : Opening) (P H : History) (actor reg : ℕ) (call : Call) (told : PlugTells) (front : IsFrontOf P H) → IsLegal K H
+    → list_all (λ e. not (is_brought_home_by actor reg e)) front.later ≡ true → IsLent P actor reg call told → IsLent H actor reg call told
+stays_out_along K P H actor reg call told front legal none lent =
+    let L : History → Type 0 = λ H. IsLent H actor reg call told in
+    subst L (sym front.is) (along front.later (subst (IsLegal K) front.is legal) none)
+  where
+    along : (later : History) → IsLegal K (later ++ P) → list_all (λ e. not (is_brought_home_by actor reg e)) later ≡ true → IsLent (later ++ P) actor reg call told
+    along [] l all = lent
+    along (e ∷ later) l all =
+        let two = and_parts (not (is_brought_home_by actor reg e)) (list_all (λ e. not (is_brought_home_by actor reg e)) later) all in
+        let before = along later l.0 two.1 in
+        stays_out K (later ++ P) actor reg call told before e l.1
+        (other_home K (later ++ P) actor reg call told e l.1 before (not-true (is_brought_home_by actor reg e) two.0))
+
+-- ---- nothing is left to do
+
+pub without_work : (K : Opening) (core : CoreSeen) (P : History) → Stands K core P → core.queue ≡ [] → ready K P ≡ None → is_idle K P ≡ true
+without_work K core P s none nobody = idle_by K P (sym s.queue ∙ none) nobody
 
 -- ---- one that is out is out in the core
 

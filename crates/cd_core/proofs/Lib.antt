@@ -1,8 +1,5 @@
-pub mod Lists
-pub mod Legality
-pub mod Posted
-pub mod Fresh
 pub mod Rows
+pub mod Waiting
 pub mod FlushCounts
 pub mod Answering
 pub mod Standing

@@ -1,13 +1,14 @@
 -- Writes to the writers that are named, each once.
-use Rattle.cd_core.proofs.Lists.{filter_append}
+use Rattle.cd_daemon.proofs.Lists.{filter_append}
 use Rattle.cd_chain.specs.declared.data.Action.TheVariants as actions
 use Rattle.cd_daemon.specs.Performing.{Effects, each_once, perform, write_to, writer_named}
 use Rattle.cd_history.specs.Registrations.{Registration, is_text}
 use Rattle.cd_value.specs.declared.data.ValueList.{ValueList}
-use Rattle.std.proofs.Common.{Bool, List, None, Option, Some, [], ap, append-nil, arith, cond, false, get_or, length, map, not, refl, subst, sym, take, true, ℕ, ◌++◌, ◌+◌, ◌<◌, ◌==◌, ◌∙◌, ◌∷◌, ◌≡◌, ◌||◌}
+use Rattle.std.proofs.Common.{Bool, List, [], ap, append-nil, cond, false, get_or, length, map, not, refl, sym, take, true, ℕ, ◌++◌, ◌+◌, ◌<◌, ◌==◌, ◌∙◌, ◌∷◌, ◌≡◌, ◌||◌}
 use Rattle.std.proofs.lemmas.List.Sums.{fold-append}
 use Rattle.std.proofs.lemmas.List.{map-append, take_more}
 use Rattle.std.specs.List.{filter, fold, list_any}
+use Rattle.std.specs.Prelude.{IsSomeAnd, IsTrue, None, Option, Some, ◌↔◌}
 use Rattle.std.specs.Str.{bytes_eq}
 
 -- a name behind the others, by whether it is among them
@@ -63,3 +64,16 @@ pub performed_named : (regs : List Registration) (done : Effects) (list : ValueL
     → perform regs done (actions.Write names list) ≡ written regs list done names
 performed_named regs done list [] some = absurd (cc)
 performed_named regs done list (name ∷ names) some = refl
+
+-- ---- who has a name
+
+-- a test that holds exactly where there is an element that passes
+pub test_there : {A : Type 0} (o : Option A) (test : A → Bool) (b : Bool) → IsTrue b ↔ IsSomeAnd o (λ x. IsTrue (test x)) → b ≡ elim o [ None ↦ false | Some x ↦ test x ]
+test_there None test true says = absurd (says.0 refl)
+test_there None test false says = refl
+test_there (Some x) test true says = sym (says.0 refl)
+test_there (Some x) test false says = by (test x) says.1
+  where
+    by : (t : Bool) → (t ≡ true → false ≡ true) → false ≡ t
+    by true back = back refl
+    by false back = refl

@@ -1,21 +1,21 @@
 -- The core stands for the history in which lists were offered to the write queue.
-use Rattle.cd_core.proofs.Legality.{handled_of_kept}
+use Rattle.cd_daemon.proofs.Legality.{handled_of_kept}
 use Rattle.cd_core.proofs.Rows.{rows_quiet}
 use Rattle.cd_core.proofs.Standing.{quiet}
-use Rattle.cd_core.specs.Answers.{accept_answer, limits_of, queued}
+use Rattle.cd_daemon.specs.Answers.{accept_answer, limits_of, queued}
 use Rattle.cd_core.specs.Seen.{CoreSeen}
-use Rattle.cd_core.specs.Stands.{Anyhow, Makes, Stands}
+use Rattle.cd_core.specs.Stands.{Anyhow, Makes}
 use Rattle.cd_daemon.specs.declared.Opening.{Opening}
-use Rattle.cd_history.specs.History.{History, handles, is_stopped, kept, kept_of, ◌▸◌}
+use Rattle.cd_history.specs.History.{handles, kept, kept_of}
 use Rattle.cd_history.specs.declared.entry.Entry.TheVariants as entry
 use Rattle.cd_history.specs.declared.entry.Stopping.{Stopping}
-use Rattle.cd_queue.specs.Drops.{Limits, after_offer, after_offers, fates_of}
+use Rattle.cd_queue.specs.Drops.{Limits, after_offers, fates_of}
 use Rattle.cd_types.specs.Types.{fits}
 use Rattle.cd_value.specs.declared.data.Offered.TheVariants.{Dropped, Kept}
 use Rattle.cd_value.specs.declared.data.Offered.{Offered}
 use Rattle.cd_value.specs.declared.data.DataSet.{DataSet}
 use Rattle.cd_value.specs.declared.data.ValueList.{ValueList}
-use Rattle.std.proofs.Common.{Bool, Err, IsTrue, List, Ok, Result, [], ap, append-nil, append_assoc, cond, drop, false, length, refl, subst, sym, true, ℕ, ◌++◌, ◌∙◌, ◌∷◌, ◌≡◌}
+use Rattle.std.proofs.Common.{Bool, Err, IsTrue, List, Ok, Result, [], ap, append-nil, append_assoc, cond, false, length, refl, subst, sym, true, ℕ, ◌++◌, ◌∙◌, ◌∷◌, ◌≡◌}
 use Rattle.std.proofs.lemmas.List.{drop-append-le}
 use Rattle.std.specs.List.{list_all}
 

@@ -1,38 +1,31 @@
 -- The rows after an entry, by those before it.
-use Rattle.cd_core.proofs.Fresh.{IsFresh, fresh}
-use Rattle.cd_core.proofs.Legality.{free, number_of, numbered, taken_of_made, takeable, welcome}
-use Rattle.cd_core.proofs.Lists.{at_shown, map_each, number_at, only_one}
-use Rattle.cd_core.specs.Answers.{ready, retire_answer}
-use Rattle.cd_core.specs.Calls.{calls_to, configuring, posts_of, waiting_for}
-use Rattle.cd_core.specs.Legal.{Allowed, IsLegal}
-use Rattle.cd_core.specs.Objects.{IsEntered, TellsHome, home_after, home_with, place_after, place_by}
+use Rattle.cd_daemon.proofs.Legality.{number_of, numbered, taken_of_made}
+use Rattle.cd_daemon.proofs.Lists.{at_shown, map_each, number_at, only_one}
+use Rattle.cd_daemon.specs.Calls.{calls_to, sent_to, waiting_for}
+use Rattle.cd_daemon.specs.Legal.{IsLegal}
+use Rattle.cd_core.specs.Objects.{IsEntered, home_after, home_with, place_after, place_by}
 use Rattle.cd_core.specs.Stands.{row_after, rows_after}
-use Rattle.cd_daemon.specs.Answers.{register_answer}
-use Rattle.cd_daemon.specs.Calls.{sent_to}
 use Rattle.cd_daemon.specs.Performing.{Post}
 use Rattle.cd_daemon.specs.declared.Opening.{Opening}
-use Rattle.cd_history.specs.History.{Event, History, ◌▸◌}
+use Rattle.cd_history.specs.History.{History, ◌▸◌}
 use Rattle.cd_history.specs.Leases.{answered, answered_one, call_out, taken_by, takes}
 use Rattle.cd_history.specs.Registrations.{Registration, is_closed, is_retired, kinds_joined, registrations}
 use Rattle.cd_history.specs.declared.entry.Entry.TheVariants as entry
 use Rattle.cd_history.specs.declared.entry.Joining.TheVariants.{Plug, Probe}
 use Rattle.cd_history.specs.declared.entry.Joining.{Joining}
 use Rattle.cd_registry.proofs.Numbered.{with_row-numbered}
-use Rattle.cd_registry.specs.Rows.{At, IsPlugOut, Row, after_close, after_give, after_post, after_retire, after_take, home_of, kinds_of, new_row, with_row}
+use Rattle.cd_registry.specs.Rows.{At, IsPlugOut, Row, after_close, after_give, after_post, after_retire, after_take, with_row}
 use Rattle.cd_registry.specs.Told.{told_after, told_after_all}
 use Rattle.cd_registry.specs.declared.calls.Answer.{Answer}
 use Rattle.cd_registry.specs.declared.calls.AnsweredCall.{AnsweredCall}
-use Rattle.cd_registry.specs.declared.calls.Call.TheVariants as calls
 use Rattle.cd_registry.specs.declared.calls.Call.{Call}
-use Rattle.cd_registry.specs.declared.kinds.TheConstants.Kinds.{CONFIGURE}
-use Rattle.cd_registry.specs.declared.place.Place.TheVariants.{PlugHome, PlugOut, ProbeHome, Retired}
+use Rattle.cd_registry.specs.declared.place.Place.TheVariants.{PlugHome, PlugOut}
 use Rattle.cd_registry.specs.declared.place.Place.{Place}
 use Rattle.cd_registry.specs.declared.plug.PlugTells.{PlugTells}
 use Rattle.cd_registry.specs.declared.probe.ProbeTells.{ProbeTells}
-use Rattle.std.proofs.Common.{Bool, Err, List, None, Ok, Option, Some, [], add-one, ap, append-nil, append_assoc, arith, bit_and, cond, drop, eq-eqb, false, is_some, length, map, nat_eq, not, refl, slice_get, subst, suc, sym, true, zero, ℕ, ◌++◌, ◌+◌, ◌==◌, ◌∙◌, ◌∷◌, ◌≡◌, ◌≤◌, ◌||◌}
-use Rattle.std.proofs.lemmas.Bool.{eqb-false, eqb-true, ne_eqb, not-true}
-use Rattle.std.proofs.lemmas.List.{drop-append-le, drop-drop, map-append}
-use Rattle.std.proofs.lemmas.Option.{none-some, same_Some}
+use Rattle.std.proofs.Common.{Bool, List, None, Ok, Option, Some, [], ap, append-nil, append_assoc, cond, drop, eq-eqb, false, map, nat_eq, not, refl, slice_get, subst, sym, true, ℕ, ◌++◌, ◌+◌, ◌∙◌, ◌∷◌, ◌≡◌, ◌||◌}
+use Rattle.std.proofs.lemmas.Bool.{eqb-false, eqb-true, ne_eqb}
+use Rattle.std.proofs.lemmas.List.{drop-append-le, drop-drop}
 
 -- the row of a registration with these calls instead of its own
 abbrev pub row_with : Opening → History → Registration → List Call → Row

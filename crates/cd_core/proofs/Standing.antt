@@ -1,55 +1,43 @@
 -- The core stands for the history with an entry more: one lemma for each kind of step.
-use Rattle.cd_core.proofs.Answering.{answer_by, answer_is, number_is, ready_is, retire_is, retire_reply_is}
+use Rattle.cd_core.proofs.Answering.{number_is, ready_is, retire_is, retire_reply_is}
 use Rattle.cd_core.proofs.FlushCounts.{flushes_answered}
-use Rattle.cd_core.proofs.Fresh.{fresh}
-use Rattle.cd_core.proofs.Legality.{free, live_below, number_of, numbered, takeable}
-use Rattle.cd_core.proofs.Lists.{at_shown, filter_append, filter_same, first_left, number_at}
+use Rattle.cd_daemon.proofs.Legality.{number_of, numbered, takeable}
+use Rattle.cd_daemon.proofs.Lists.{at_shown, first_left, number_at}
 use Rattle.cd_core.proofs.Rows.{rows_closed, rows_given, rows_quiet, rows_retired, rows_taken, eq_sym}
-use Rattle.cd_core.specs.Answers.{limits_of, next_call, queued, ready, retire_answer}
-use Rattle.cd_core.specs.Calls.{calls_to, waiting_for}
-use Rattle.cd_core.specs.Flushes.{flushes_begun}
-use Rattle.cd_core.specs.Legal.{Allowed, IsLegal}
-use Rattle.cd_core.specs.Objects.{IsEntered, IsLent, TellsHome, home_after, home_with, place_after, place_by}
-use Rattle.cd_core.specs.Replies.{as_register_fault, close_reply, register_refusal, retire_reply}
+use Rattle.cd_daemon.specs.Answers.{next_call, query_answer, queued, ready, retire_answer}
+use Rattle.cd_daemon.specs.Calls.{cache_after, calls_to}
+use Rattle.cd_daemon.specs.Flushes.{flushes_begun}
+use Rattle.cd_daemon.specs.Legal.{Allowed}
+use Rattle.cd_core.specs.Objects.{IsEntered, IsLent, TellsHome, home_after, place_by}
+use Rattle.cd_core.specs.Replies.{retire_reply}
 use Rattle.cd_core.specs.Seen.{CoreSeen}
-use Rattle.cd_core.specs.Stands.{Anyhow, Makes, Stands, flushes_after, in_force, row_after, rows_after, writers_after}
+use Rattle.cd_core.specs.Stands.{Anyhow, Makes, Stands, flushes_after, row_after, rows_after, writers_after}
 use Rattle.cd_core.specs.UnderWay.{after_answer_to}
-use Rattle.cd_core.specs.declared.faults.RegisterFault.TheVariants as register
-use Rattle.cd_core.specs.declared.faults.RegisterFault.{RegisterFault}
 use Rattle.cd_core.specs.declared.flush.Flush.{Flush}
-use Rattle.cd_daemon.specs.Answers.{close_answer, query_answer, register_answer}
-use Rattle.cd_daemon.specs.Calls.{cache_after}
 use Rattle.cd_daemon.specs.declared.Opening.{Opening}
 use Rattle.cd_history.specs.History.{Event, History, is_stopped, ◌▸◌}
-use Rattle.cd_history.specs.Leases.{answered, call_out, taken_by, takes}
-use Rattle.cd_history.specs.Registrations.{Registration, closed_by, has_kind, is_closed, is_retired, listeners, live, number_of_live, registrations}
+use Rattle.cd_history.specs.Leases.{taken_by, takes}
+use Rattle.cd_history.specs.Registrations.{Registration, closed_by, has_kind, is_closed, is_retired, number_of_live, registrations}
 use Rattle.cd_history.specs.declared.entry.Entry.TheVariants as entry
 use Rattle.cd_history.specs.declared.entry.Found.{Found}
-use Rattle.cd_history.specs.declared.entry.Joining.{Joining}
-use Rattle.cd_history.specs.declared.entry.RegisterFault.TheVariants as refused
-use Rattle.cd_history.specs.declared.entry.RegisterFault.{RegisterFault as Refusal}
 use Rattle.cd_registry.proofs.Ats.{at_map}
-use Rattle.cd_registry.specs.Faults.{add_fault, named_fault, retire_fault}
+use Rattle.cd_registry.specs.Faults.{retire_fault}
 use Rattle.cd_registry.specs.Rows.{At, IsHomeFor, IsPlugOut, Row, after_close, after_give, after_retire, after_take, home_of, is_ready, live_number, with_row}
 use Rattle.cd_registry.specs.declared.calls.Answer.{Answer}
 use Rattle.cd_registry.specs.declared.calls.Call.{Call}
-use Rattle.cd_registry.specs.declared.faults.AddFault.TheVariants as add
-use Rattle.cd_registry.specs.declared.faults.AddFault.{AddFault}
 use Rattle.cd_registry.specs.declared.faults.NotRegistered.{NotRegistered}
 use Rattle.cd_registry.specs.declared.faults.RetireFault.{RetireFault}
 use Rattle.cd_registry.specs.declared.kinds.TheConstants.Kinds.{WRITE}
 use Rattle.cd_registry.specs.Slots.{member_tells}
 use Rattle.cd_registry.specs.declared.member.MemberOf.TheVariants as members
 use Rattle.cd_registry.specs.declared.member.MemberOf.{MemberOf}
-use Rattle.cd_registry.specs.declared.place.Place.TheVariants.{PlugHome, PlugOut, ProbeHome}
+use Rattle.cd_registry.specs.declared.place.Place.TheVariants.{PlugHome, ProbeHome}
 use Rattle.cd_registry.specs.declared.place.Place.{Place}
 use Rattle.cd_registry.specs.declared.plug.PlugTells.{PlugTells}
 use Rattle.cd_registry.specs.declared.probe.ProbeTells.{ProbeTells}
-use Rattle.std.proofs.Common.{Bool, Err, IfSome, List, None, Ok, OnErr, OnOk, Option, Result, Some, [], ap, arith, cond, eq-eqb, false, length, map, nat_eq, not, refl, slice_get, subst, sym, true, ℕ, ◌∙◌, ◌∷◌, ◌≡◌, ◌||◌}
-use Rattle.std.proofs.lemmas.Bool.{eqb-false, eqb-true, ne_eqb}
-use Rattle.std.proofs.lemmas.Option.{none-some, same_Some}
+use Rattle.std.proofs.Common.{Bool, Err, IfSome, List, None, Ok, OnErr, OnOk, Option, Result, Some, [], ap, cond, eq-eqb, false, map, nat_eq, not, refl, slice_get, subst, sym, true, ℕ, ◌∙◌, ◌∷◌, ◌≡◌, ◌||◌}
 use Rattle.std.specs.List.{filter, position}
-use Rattle.std.specs.Option.{ok_or, option_map}
+use Rattle.std.specs.Option.{ok_or}
 use Rattle.std.specs.Result.{result_err}
 
 -- an entry that changes the rows alone

@@ -1,21 +1,20 @@
 -- The core stands for the history with a registration more, or with one that was refused.
 use Rattle.cd_core.proofs.Answering.{answer_by, answer_is}
-use Rattle.cd_core.proofs.Fresh.{IsFresh, configured_alone, fresh}
-use Rattle.cd_core.proofs.Legality.{number_of, numbered}
-use Rattle.cd_core.proofs.Lists.{filter_append, map_each, number_at}
+use Rattle.cd_daemon.proofs.Fresh.{configured_alone, fresh}
+use Rattle.cd_daemon.proofs.Legality.{number_of, numbered}
+use Rattle.cd_daemon.proofs.Lists.{filter_append, map_each, number_at}
 use Rattle.cd_core.proofs.Rows.{row_with, rows_quiet}
 use Rattle.cd_core.proofs.Standing.{quiet}
-use Rattle.cd_core.specs.Calls.{calls_to, configuring}
-use Rattle.cd_core.specs.Legal.{IsLegal}
+use Rattle.cd_daemon.specs.Calls.{calls_to, configuring, sent_to}
+use Rattle.cd_daemon.specs.Legal.{IsLegal}
 use Rattle.cd_core.specs.Objects.{home_with, place_by}
 use Rattle.cd_core.specs.Replies.{as_register_fault, register_refusal}
 use Rattle.cd_core.specs.Seen.{CoreSeen}
 use Rattle.cd_core.specs.Stands.{Anyhow, Makes, Stands, row_after, rows_after, writers_after}
 use Rattle.cd_core.specs.declared.faults.RegisterFault.{RegisterFault}
 use Rattle.cd_daemon.specs.Answers.{register_answer}
-use Rattle.cd_daemon.specs.Calls.{sent_to}
 use Rattle.cd_daemon.specs.declared.Opening.{Opening}
-use Rattle.cd_history.specs.History.{Event, History, is_stopped, ◌▸◌}
+use Rattle.cd_history.specs.History.{Event, History, ◌▸◌}
 use Rattle.cd_history.specs.Leases.{answered, taken_by, takes}
 use Rattle.cd_history.specs.Registrations.{Registration, has_kind, is_closed, is_retired, live, registrations}
 use Rattle.cd_history.specs.declared.entry.Entry.TheVariants as entry
@@ -33,9 +32,8 @@ use Rattle.cd_registry.specs.declared.faults.AddFault.{AddFault}
 use Rattle.cd_registry.specs.declared.kinds.Kinds.{Kinds}
 use Rattle.cd_registry.specs.declared.kinds.TheConstants.Kinds.{CONFIGURE, WRITE}
 use Rattle.cd_registry.specs.declared.member.MemberOf.TheVariants as members
-use Rattle.cd_registry.specs.declared.place.Place.TheVariants.{PlugHome}
 use Rattle.cd_registry.specs.declared.plug.PlugTells.{PlugTells}
-use Rattle.std.proofs.Common.{Bool, Err, IfSome, List, None, Ok, Option, Result, Some, [], ap, append-nil, arith, bit_and, cond, drop, eq-eqb, false, length, map, nat_eq, not, refl, slice_get, subst, sym, true, zero, suc, ℕ, ◌++◌, ◌+◌, ◌<◌, ◌==◌, ◌∙◌, ◌∷◌, ◌≡◌, ◌≤◌}
+use Rattle.std.proofs.Common.{Bool, Err, IfSome, List, None, Ok, Option, Result, Some, [], ap, append-nil, arith, bit_and, cond, drop, eq-eqb, false, length, map, nat_eq, not, refl, slice_get, subst, sym, true, ℕ, ◌++◌, ◌<◌, ◌==◌, ◌∙◌, ◌∷◌, ◌≡◌}
 use Rattle.std.proofs.lemmas.Bool.{ne_eqb}
 use Rattle.std.proofs.lemmas.List.{length-map, map-append}
 use Rattle.std.proofs.lemmas.Option.{slice_get_within}

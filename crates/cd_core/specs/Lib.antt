@@ -1,7 +1,3 @@
-pub mod Flushes
-pub mod Calls
-pub mod Answers
-pub mod Legal
 pub mod Replies
 pub mod Seen
 pub mod UnderWay

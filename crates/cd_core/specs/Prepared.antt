@@ -1,15 +1,14 @@
 -- What handling a list comes to, before anything is changed: words of private contracts and of proofs. No public clause
 -- cites them.
 use Rattle.cd_cache.specs.Cache.{CacheMap, outcome, updated}
-use Rattle.cd_chain.specs.Chains.{ended}
 use Rattle.cd_chain.specs.declared.data.Chain.{Chain}
-use Rattle.cd_chain.specs.declared.data.Run.{Run}
-use Rattle.cd_chain.specs.declared.data.Verdict.TheVariants.{Continue}
 use Rattle.cd_core.specs.Posting.{write_if_any}
 use Rattle.cd_core.specs.declared.prepared.Prepared.TheVariants.{Passed, Stopped}
 use Rattle.cd_core.specs.declared.prepared.Prepared.{Prepared}
-use Rattle.cd_daemon.specs.Handling.{Handling, as_how}
-use Rattle.cd_daemon.specs.Performing.{Post}
+use Rattle.cd_daemon.specs.Handling.{Handling, as_how, run_behind, scene_of}
+use Rattle.cd_daemon.specs.Performing.{Effects, Post, perform_all}
+use Rattle.cd_daemon.specs.declared.Rules.{Rules}
+use Rattle.cd_history.specs.Registrations.{Registration}
 use Rattle.cd_history.specs.declared.entry.How.TheVariants as how
 use Rattle.cd_history.specs.declared.entry.How.{How}
 use Rattle.cd_value.specs.declared.data.DataSet.{DataSet}
@@ -21,10 +20,18 @@ abbrev pub chain_there : List Chain → Option ℕ → Option ℕ
 chain_there chains None = None
 chain_there chains (Some number) = if nat_lt number (length chains) then Some number else None
 
--- the run of the chain before the cache, where there is one
-abbrev pub run_of : ValueList → Option Run → Run
-run_of list None = ended Continue list
-run_of list (Some run) = run
+-- what comes behind the chain before the cache, where that let the list pass: it is stored, and the chain behind the
+-- cache runs on it
+abbrev pub passed_on : Rules → List Registration → DataSet → ℕ → CacheMap → ValueList → Effects → Handling
+passed_on rules regs set now cache list before =
+    let after = updated set list now cache in
+    let done = perform_all regs (run_behind rules (scene_of set after now) list).actions before in
+    record {
+      how = as_how (outcome list cache);
+      skipped = done.skipped;
+      cache = after;
+      posts = done.posts;
+    }
 
 abbrev pub prepared_posts : ValueList → Prepared → List Post
 prepared_posts list (Stopped done) = done.posts

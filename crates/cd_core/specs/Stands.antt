@@ -1,24 +1,17 @@
 -- When the core stands for a history.
-use Rattle.cd_cache.specs.Cache.{CacheMap}
-use Rattle.cd_core.specs.Answers.{limits_of, queued}
-use Rattle.cd_core.specs.Calls.{waiting_for}
-use Rattle.cd_core.specs.Flushes.{flush_errors, flush_successful, flush_unanswered, flushes_begun, under_way}
-use Rattle.cd_core.specs.Legal.{IsLegal}
+use Rattle.cd_daemon.specs.Answers.{in_force, limits_of, queued}
+use Rattle.cd_daemon.specs.Calls.{cache_after, waiting_for}
+use Rattle.cd_daemon.specs.Flushes.{flush_errors, flush_successful, flush_unanswered, flushes_begun, under_way}
+use Rattle.cd_daemon.specs.Legal.{IsLegal}
 use Rattle.cd_core.specs.Objects.{place_after}
 use Rattle.cd_core.specs.Seen.{CoreSeen}
 use Rattle.cd_core.specs.declared.flush.Flush.{Flush}
-use Rattle.cd_daemon.specs.Calls.{cache_after}
 use Rattle.cd_daemon.specs.declared.Opening.{Opening}
 use Rattle.cd_history.specs.History.{Event, History, is_stopped, ◌▸◌}
 use Rattle.cd_history.specs.Registrations.{Registration, is_closed, kinds_joined, listeners, live, registrations}
 use Rattle.cd_registry.specs.Rows.{Row}
 use Rattle.cd_registry.specs.declared.kinds.TheConstants.Kinds.{WRITE}
-use Rattle.std.specs.List.{filter}
 use Rattle.std.specs.Prelude.{List, map, not, ℕ, ◌≡◌}
-
--- What is in force after a history: what was so from the start. No entry changes it.
-abbrev pub in_force : Opening → History → Opening
-in_force K P = K
 
 -- the row of a registration
 abbrev pub row_after : Opening → History → Registration → Row

@@ -1,5 +1,6 @@
 -- Steps of a core, one after another.
-use Rattle.cd_core.specs.Flushes.{flush_begun_by}
+use Rattle.cd_daemon.specs.Answers.{is_idle}
+use Rattle.cd_daemon.specs.Flushes.{flush_begun_by}
 use Rattle.cd_core.specs.Objects.{IsEntered}
 use Rattle.cd_core.specs.Seen.{CoreSeen}
 use Rattle.cd_core.specs.Stands.{Makes}
@@ -9,7 +10,7 @@ use Rattle.cd_history.specs.Registrations.{closed_by}
 use Rattle.cd_history.specs.declared.entry.Entry.TheVariants as entry
 use Rattle.cd_registry.specs.declared.calls.Call.{Call}
 use Rattle.cd_registry.specs.declared.plug.PlugTells.{PlugTells}
-use Rattle.std.specs.Prelude.{Bool, IfSome, List, None, Option, Some, [], false, nat_eq, ℕ, ◌∷◌, ◌≡◌}
+use Rattle.std.specs.Prelude.{Bool, IfSome, IsTrue, List, None, Option, Some, [], false, nat_eq, true, ℕ, ◌&&◌, ◌∷◌, ◌≡◌}
 
 -- a plug-in that came home from a call
 pub record CameHome : Type 0 where
@@ -23,12 +24,14 @@ pub record Step : Type 0 where
   pub after : CoreSeen
 
 -- Whoever makes the event may do so: the object of a registration goes to the one who closed it, and the counts of a flush
--- to the one who began it; a plug-in comes home from the one who took it, entered once with its call.
+-- to the one who began it; a plug-in comes home from the one who took it, entered once with its call; and who looks
+-- sees no core idle that isn't.
 abbrev pub May : Event → Option CameHome → Opening → History → Type 0
 May (entry.Retire a r reply) home K P = IfSome (closed_by r P) (λ closer. closer ≡ a)
 May (entry.FlushClose a f reply) home K P = IfSome (flush_begun_by f P) (λ beginner. beginner ≡ a)
 May (entry.Done a r answer) (Some home) K P = IsEntered P a r home.call answer home.told
 May (entry.Done a r answer) None K P = ⊥
+May (entry.Look a idle) home K P = idle ≡ true → IsTrue (is_idle K P)
 May e home K P = Unit {0}
 
 -- each step is what a method of the core says of it
@@ -54,3 +57,8 @@ history_after P (step ∷ steps) = history_after (P ▸ step.event) steps
 abbrev pub is_home_of : ℕ → Event → Bool
 is_home_of r (entry.Done a reg answer) = nat_eq reg r
 is_home_of r e = false
+
+-- .. and the actor does so
+abbrev pub is_brought_home_by : ℕ → ℕ → Event → Bool
+is_brought_home_by actor r (entry.Done a reg answer) = nat_eq a actor && nat_eq reg r
+is_brought_home_by actor r e = false

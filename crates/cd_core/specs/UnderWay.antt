@@ -1,5 +1,5 @@
 -- What an answer does to the flushes under way.
-use Rattle.cd_core.specs.Flushes.{counted, is_call_of, is_done}
+use Rattle.cd_daemon.specs.Flushes.{counted, is_call_of, is_done}
 use Rattle.cd_core.specs.declared.flush.Flush.{Flush}
 use Rattle.cd_registry.specs.declared.calls.Answer.{Answer}
 use Rattle.cd_registry.specs.declared.calls.Call.{Call}

@@ -1,6 +1,6 @@
 //! The calls that a flush makes.
 ghost use Rattle.cd_core.specs.Asked.{flusher_in, plugins_in};
-ghost use Rattle.cd_core.specs.Flushes.{counted, flush_calls_to, names_meant};
+ghost use Rattle.cd_daemon.specs.Flushes.{counted, flush_calls_to, names_meant};
 ghost use Rattle.cd_daemon.specs.Performing.{Post as PostSeen};
 ghost use Rattle.cd_registry.specs.Registry.{rows};
 ghost use Rattle.cd_registry.specs.declared.calls.Call.TheVariants as calls;
@@ -8,7 +8,7 @@ ghost use Rattle.std.specs.List.{filter, flat_map};
 ghost use Rattle.std.specs.Prelude.{IfOk, OnOk, Some, [], is_some, length, map, not, ◌*◌, ◌++◌, ◌∷◌, ◌≡◌};
 
 use crate::effects::Post;
-use cd_registry::{Call, Kinds, Plug, Probe, Registry};
+use cd_registry::{Call, Kinds, Registry, TellsCalls, TellsReadings};
 use cd_value::{FlushRequest, Memory, Text, TryCopy};
 use std::alloc::Global;
 
@@ -24,7 +24,7 @@ fn all_there(alloc: Global, regs: &[u64]) -> Result<Vec<Option<u64>>, Memory>
 }
 
 /// The registrations of names, where they are flushed.
-fn named<P: Plug, Q: Probe>(
+fn named<P: TellsCalls, Q: TellsReadings>(
     alloc: Global,
     registry: &Registry<P, Q>,
     names: &[Text],
@@ -40,7 +40,7 @@ fn named<P: Plug, Q: Probe>(
 }
 
 /// The plug-ins that a request means.
-pub(crate) fn plugins_meant<P: Plug, Q: Probe>(
+pub(crate) fn plugins_meant<P: TellsCalls, Q: TellsReadings>(
     alloc: Global,
     registry: &Registry<P, Q>,
     request: &FlushRequest,

@@ -1,16 +1,16 @@
 //! What performing the actions of filter chains comes to: calls that are to be posted, and writers that are skipped.
-ghost use Rattle.cd_core.specs.Posting.{Finds, write_if_any};
+ghost use Rattle.cd_core.specs.Posting.{Finds, is_writer, with_write, write_if_any};
 ghost use Rattle.cd_daemon.specs.Performing.{each_once, nothing, perform, perform_all, to_each, write_to, writer_named};
 ghost use Rattle.cd_history.specs.Registrations.{Registration};
 ghost use Rattle.cd_registry.specs.Registry.{rows};
 ghost use Rattle.cd_registry.specs.declared.calls.Call.TheVariants as calls;
 ghost use Rattle.cd_value.specs.declared.data.ValueList.{ValueList};
-ghost use Rattle.std.specs.List.{fold, list_any};
-ghost use Rattle.std.specs.Prelude.{IfOk, List, OnOk, [], if◌then◌else◌, length, map, take, ℕ, ◌++◌, ◌+◌, ◌<◌, ◌∷◌, ◌≡◌};
+ghost use Rattle.std.specs.List.{find, fold, list_any};
+ghost use Rattle.std.specs.Prelude.{IfOk, List, OnOk, [], if◌then◌else◌, length, map, nat_eq, take, ℕ, ◌++◌, ◌+◌, ◌<◌, ◌∷◌, ◌≡◌};
 ghost use Rattle.std.specs.Str.{bytes_eq};
 
 use cd_chain::{Action, Actions};
-use cd_registry::{Call, Kinds, Plug, Probe, Registry};
+use cd_registry::{Call, Kinds, Registry, TellsCalls, TellsReadings};
 use cd_value::{Memory, Text, TryCopy, ValueList};
 use std::alloc::Global;
 use std::marker::Model;
@@ -28,6 +28,15 @@ impl Model for Post {
     ghost Value = { PostSeen };
 
     ghost view = { λ post. record { reg = post.reg; call = post.call } };
+}
+
+impl Post {
+    /// Whether it goes to a registration.
+    pub(crate) fn goes_to(&self, reg: u64) -> bool
+        ensures { result ≡ nat_eq self.now.reg reg }
+    {
+        self.reg == reg
+    }
 }
 
 /// The calls that are to be posted, in order, and how many writers that were named are skipped.
@@ -90,9 +99,7 @@ impl Effects {
 
     /// A write of a list, where there is a registration to which it goes.
     fn write(&mut self, list: ValueList, to: Option<u64>) -> Result<(), Memory>
-        ensures { OnOk result (self.new ≡ record self.old {
-          posts = self.old.posts ++ write_if_any list to;
-        }) }
+        ensures { OnOk result (self.new ≡ with_write list to self.old) }
     {
         match to {
             Some(reg) => self.post(reg, Call::Write(list)),
@@ -102,9 +109,7 @@ impl Effects {
 
     /// The same, of a copy of a list.
     fn write_copy(&mut self, alloc: Global, list: &ValueList, to: Option<u64>) -> Result<(), Memory>
-        ensures { OnOk result (self.new ≡ record self.old {
-          posts = self.old.posts ++ write_if_any list.now to;
-        }) }
+        ensures { OnOk result (self.new ≡ with_write list.now to self.old) }
     {
         match to {
             Some(reg) => self.post(reg, Call::Write(list.copy(alloc)?)),
@@ -124,6 +129,7 @@ impl Effects {
             ≡ self.old.posts ++ to_each writers.now (calls.Write list.now)) }
         ensures skipped { OnOk result (self.new.skipped ≡ self.old.skipped) }
     {
+        self.posts.reserve(writers.len().saturating_sub(1))?;
         let mut last = None;
         for writer in writers {
             self.write_copy(alloc, list, last)?;
@@ -143,17 +149,32 @@ impl Effects {
           posts = self.old.posts ++ to_each writers.now (calls.Write list);
         }) }
     {
+        self.posts.reserve(writers.len())?;
         let last = self.write_copies(alloc, &list, writers)?;
         self.write(list, last)
     }
 
-    /// A write of a list to a writer that was named; where there is none of the name, it is skipped.
-    fn write_to(&mut self, alloc: Global, list: &ValueList, to: Option<u64>) -> Result<(), Memory>
-        ensures { OnOk result (self.new ≡ write_to list.now self.old to) }
+    /// Where a list is still to be written to a registration, a writer that was named comes behind it; where there is
+    /// none of the name, it is skipped. It gives the last one, which may have the list itself.
+    fn write_behind(
+        &mut self,
+        alloc: Global,
+        list: &ValueList,
+        last: Option<u64>,
+        to: Option<u64>,
+    ) -> Result<Option<u64>, Memory>
+        ensures { IfOk result (λ next. with_write list.now next self.new
+            ≡ write_to list.now (with_write list.now last self.old) to) }
     {
         match to {
-            Some(reg) => self.post(reg, Call::Write(list.copy(alloc)?)),
-            None => self.skip(),
+            Some(reg) => {
+                self.write_copy(alloc, list, last)?;
+                Ok(Some(reg))
+            }
+            None => {
+                self.skip()?;
+                Ok(last)
+            }
         }
     }
 
@@ -178,50 +199,105 @@ fn is_among_first(names: &[Text], count: usize, name: &Text) -> bool
     names[..count].iter().any(|earlier| *name == *earlier)
 }
 
-/// A write of a list to the writer of a name, unless that is among the first so many.
-fn write_to_next<P: Plug, Q: Probe>(
+/// Whether a registration is the live one of a name, and is called with lists.
+fn is_writer<P: TellsCalls, Q: TellsReadings>(
+    registry: &Registry<P, Q>,
+    reg: u64,
+    name: &Text,
+) -> bool
+    ensures { result ≡ is_writer (rows P.plug_tells Q.probe_tells registry.now) name.now reg }
+{
+    registry.is_named(reg, name, Kinds::WRITE)
+}
+
+/// The one of these writers that has a name.
+fn writer_named<P: TellsCalls, Q: TellsReadings>(
+    registry: &Registry<P, Q>,
+    writers: &[u64],
+    name: &Text,
+) -> Option<u64>
+    ensures { result ≡
+        find (is_writer (rows P.plug_tells Q.probe_tells registry.now) name.now) writers.now }
+{
+    for reg in writers {
+        if is_writer(registry, *reg, name) {
+            return Some(*reg);
+        }
+    }
+    None
+}
+
+/// The writer of a name comes behind the last one so far, unless the name is among the first so many.
+fn write_to_next<P: TellsCalls, Q: TellsReadings>(
     alloc: Global,
     registry: &Registry<P, Q>,
+    writers: &[u64],
     effects: &mut Effects,
     names: &[Text],
     at: usize,
     name: &Text,
     list: &ValueList,
-) -> Result<(), Memory>
+    last: Option<u64>,
+) -> Result<Option<u64>, Memory>
     requires { at < length names.now }
-    ensures { OnOk result ((regs : List Registration) (writers : List ℕ) →
-        Finds regs writers (rows P.plug_tells Q.probe_tells registry.now) →
-        effects.new ≡ (if list_any (bytes_eq name.now) (take at names.now) then effects.old
-        else write_to list.now effects.old (writer_named regs name.now))) }
+    ensures { IfOk result (λ next. (regs : List Registration) →
+        Finds regs writers.now (rows P.plug_tells Q.probe_tells registry.now) →
+        with_write list.now next effects.new
+        ≡ (let before = with_write list.now last effects.old in
+        if list_any (bytes_eq name.now) (take at names.now) then before
+        else write_to list.now before (writer_named regs name.now))) }
 {
     if is_among_first(names, at, name) {
-        Ok(())
+        Ok(last)
     } else {
-        effects.write_to(alloc, list, registry.find(name, Kinds::WRITE))
+        effects.write_behind(alloc, list, last, writer_named(registry, writers, name))
     }
 }
 
-/// Writes of a list to the writers that are named, each once.
-fn write_to_named<P: Plug, Q: Probe>(
+/// Writes of copies of a list to the writers that are named, each once, to all but the last. This one is told: it may
+/// have the list itself.
+fn write_copies_to_named<P: TellsCalls, Q: TellsReadings>(
     alloc: Global,
     registry: &Registry<P, Q>,
+    writers: &[u64],
     effects: &mut Effects,
     names: &[Text],
     list: &ValueList,
-) -> Result<(), Memory>
-    ensures { OnOk result ((regs : List Registration) (writers : List ℕ) →
-        Finds regs writers (rows P.plug_tells Q.probe_tells registry.now) →
-        effects.new ≡ fold (write_to list.now) effects.old
+) -> Result<Option<u64>, Memory>
+    ensures { IfOk result (λ last. (regs : List Registration) →
+        Finds regs writers.now (rows P.plug_tells Q.probe_tells registry.now) →
+        with_write list.now last effects.new ≡ fold (write_to list.now) effects.old
         (map (writer_named regs) (each_once names.now))) }
 {
+    let mut last = None;
     for (at, name) in names.iter().enumerate() {
-        write_to_next(alloc, registry, effects, names, at, name, list)?;
+        last = write_to_next(
+            alloc, registry, writers, effects, names, at, name, list, last,
+        )?;
     }
-    Ok(())
+    Ok(last)
+}
+
+/// Writes of a list to the writers that are named, each once.
+fn write_to_named<P: TellsCalls, Q: TellsReadings>(
+    alloc: Global,
+    registry: &Registry<P, Q>,
+    writers: &[u64],
+    effects: &mut Effects,
+    names: &[Text],
+    list: ValueList,
+) -> Result<(), Memory>
+    ensures { OnOk result ((regs : List Registration) →
+        Finds regs writers.now (rows P.plug_tells Q.probe_tells registry.now) →
+        effects.new ≡ fold (write_to list) effects.old
+        (map (writer_named regs) (each_once names.now))) }
+{
+    let last = write_copies_to_named(alloc, registry, writers, effects, names, &list)?;
+    effects.write(list, last)
 }
 
 /// Performs an action. A notification makes no call yet.
-fn perform<P: Plug, Q: Probe>(
+fn perform<P: TellsCalls, Q: TellsReadings>(
     alloc: Global,
     registry: &Registry<P, Q>,
     writers: &[u64],
@@ -237,7 +313,7 @@ fn perform<P: Plug, Q: Probe>(
             if names.is_empty() {
                 effects.write_to_each(alloc, list, writers)
             } else {
-                write_to_named(alloc, registry, effects, names.as_slice(), &list)
+                write_to_named(alloc, registry, writers, effects, names.as_slice(), list)
             }
         }
         Action::Notify(_) => Ok(()),
@@ -245,7 +321,7 @@ fn perform<P: Plug, Q: Probe>(
 }
 
 /// Performs actions, in order.
-pub(crate) fn perform_all<P: Plug, Q: Probe>(
+pub(crate) fn perform_all<P: TellsCalls, Q: TellsReadings>(
     alloc: Global,
     registry: &Registry<P, Q>,
     writers: &[u64],

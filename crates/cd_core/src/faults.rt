@@ -10,7 +10,7 @@ pub enum RegisterFault {
     Reserved,
     /// The live registration of this number has the name.
     NameTaken(u64),
-    /// As many registrations are live as there may be.
+    /// `LIVE_LIMIT` registrations are live.
     TableFull,
     /// Memory was lacking.
     Memory,
@@ -55,7 +55,7 @@ pub enum QueryFault {
 pub enum FlushFault {
     /// A stop came before.
     Stopping,
-    /// Memory was lacking.
+    /// Memory was lacking, or as many flushes were begun as are counted.
     Memory,
 }
 

@@ -1,5 +1,5 @@
 //! Flushes that are under way.
-ghost use Rattle.cd_core.specs.Flushes.{flush_of};
+ghost use Rattle.cd_daemon.specs.Flushes.{flush_of};
 ghost use Rattle.cd_core.specs.UnderWay.{after_answer, after_answer_to, counted_as};
 ghost use Rattle.std.specs.Prelude.{map, ◌≡◌};
 

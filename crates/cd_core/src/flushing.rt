@@ -1,6 +1,6 @@
 //! Flushes, as FLUSH of collectd-unixsock(5) asks for them.
 ghost use Rattle.cd_core.specs.Replies.{begin_reply, end_reply};
-ghost use Rattle.cd_core.specs.Flushes.{flush_begun_by};
+ghost use Rattle.cd_daemon.specs.Flushes.{flush_begun_by};
 ghost use Rattle.cd_history.specs.declared.entry.Entry.TheVariants as entry;
 ghost use Rattle.std.specs.List.{filter, find};
 ghost use Rattle.std.specs.Prelude.{IfSome, OnErr, nat_eq, not, ℕ, ◌≡◌};
@@ -8,16 +8,17 @@ ghost use Rattle.std.specs.Prelude.{IfSome, OnErr, nat_eq, not, ℕ, ◌≡◌};
 use crate::asking::{calls_of, missed, plugins_meant};
 use crate::posting::{post_all, reserve_all};
 use crate::{Core, Flush, FlushEnd, FlushFault};
-use cd_registry::{Plug, Probe};
+use cd_registry::{TellsCalls, TellsReadings};
 use cd_value::FlushRequest;
 use std::alloc::Global;
 
-impl<P: Plug, Q: Probe> Core<P, Q> {
+impl<P: TellsCalls, Q: TellsReadings> Core<P, Q> {
     ghost use Rattle.cd_core.specs.Seen.{seen};
     ghost use Rattle.cd_core.specs.Stands.{Anyhow, Makes};
 
-    /// Begins a flush, and gives its number: each plug-in that is named, or each live one that is flushed, is called once
-    /// for each name of values that is given, or once for all.
+    /// Begins a flush, and gives its number: each live plug-in that is named and flushed, or where none is named each
+    /// that is flushed, is called once for each name of values that is given, or once for all. `Stopping` after a stop;
+    /// `Memory` where it was lacking, or as many flushes were begun as are counted. Then all is as it was.
     pub fn flush_begin(&mut self, alloc: Global, request: &FlushRequest) -> Result<u64, FlushFault>
         ensures step { IfSome (begin_reply result) (λ reply. (actor : ℕ) →
             Makes (seen P.plug_tells Q.probe_tells self.old)
@@ -43,7 +44,7 @@ impl<P: Plug, Q: Probe> Core<P, Q> {
         if self.flushes.reserve(1).is_err() {
             return Err(FlushFault::Memory);
         }
-        if reserve_all(&mut self.registry, posts.as_slice(), unanswered).is_err() {
+        if reserve_all(&mut self.registry, posts.as_slice()).is_err() {
             return Err(FlushFault::Memory);
         }
         self.flushes.push_reserved(Flush {
@@ -57,8 +58,9 @@ impl<P: Plug, Q: Probe> Core<P, Q> {
         Ok(number)
     }
 
-    /// The counts of a flush, once all its calls have answers: those answered with `Done`, and the others with the pairs
-    /// for which there was nobody to call. The flush is forgotten. Only the actor that began it asks for it.
+    /// The counts of a flush, once all its calls have answers: those answered with `Done`, and the others with the
+    /// pairs for which there was nobody to call. The flush is forgotten. Only the actor that began it asks for it.
+    /// Before, `NotYet` says how many calls have none; `NoSuchFlush`: no flush of the number is under way.
     pub fn flush_end(&mut self, number: u64) -> Result<(u64, u64), FlushEnd>
         ensures step { (actor : ℕ) → Makes (seen P.plug_tells Q.probe_tells self.old)
             (seen P.plug_tells Q.probe_tells self.new)

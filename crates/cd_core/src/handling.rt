@@ -7,30 +7,20 @@ ghost use Rattle.cd_history.specs.Registrations.{Registration};
 ghost use Rattle.cd_history.specs.declared.entry.Entry.TheVariants as entry;
 ghost use Rattle.cd_registry.specs.Registry.{rows};
 ghost use Rattle.cd_value.specs.declared.data.ValueList.{ValueList};
-ghost use Rattle.std.specs.Prelude.{Err, IfOk, List, OnErr, OnOk, [], length, option_copied, unwrap_or, ℕ, ◌↔◌, ◌≡◌};
+ghost use Rattle.std.specs.Prelude.{Err, IfOk, List, OnErr, OnOk, [], drop, length, option_copied, ℕ, ◌↔◌, ◌≡◌};
 
 use crate::posting::{make_room, post, post_all, reserve_all};
-use crate::prepared::{Prepared, prepare};
+use crate::prepared::{Prepared, prepare, stored};
 use crate::{Core, HandleFault};
 use cd_cache::{Cache, Updated};
 use cd_daemon::Rules;
 use cd_history::{Handled, How};
-use cd_registry::{Call, Plug, Probe, Registry};
+use cd_registry::{Call, Registry, TellsCalls, TellsReadings};
 use cd_types::TypesDb;
 use cd_value::{DataSet, Memory, ValueList};
 use std::alloc::Global;
 
-/// The list as the chain before the cache left it, where there is one.
-fn stored<'a>(changed: &'a Option<ValueList>, list: &'a ValueList) -> &'a ValueList
-    ensures { result.now ≡ unwrap_or changed.now list.now }
-{
-    match changed {
-        Some(changed) => changed,
-        None => list,
-    }
-}
-
-/// Stores a list, unless what is cached under its name is as new.
+/// Stores a list, unless what is cached under its name is as new or newer.
 fn update(
     alloc: Global,
     cache: &mut Cache,
@@ -49,8 +39,8 @@ fn update(
     }
 }
 
-/// Makes room for the calls that handling a list makes, and stores it.
-fn store<P: Plug, Q: Probe>(
+/// Makes room for the calls that handling a list makes, and stores it, unless the chain before the cache stopped it.
+fn store<P: TellsCalls, Q: TellsReadings>(
     alloc: Global,
     cache: &mut Cache,
     registry: &mut Registry<P, Q>,
@@ -64,15 +54,13 @@ fn store<P: Plug, Q: Probe>(
         prepared_cache set.now now cache.old list.now prepared.now) }
     ensures err { OnErr result (cache.new ≡ cache.old) }
     ensures room { OnOk result (HasRoom P.plug_tells Q.probe_tells
-        (length (prepared_posts list.now prepared.now)) (prepared_posts list.now prepared.now)
-        registry.new) }
+        (prepared_posts list.now prepared.now) registry.new) }
     ensures rows { rows P.plug_tells Q.probe_tells registry.new
         ≡ rows P.plug_tells Q.probe_tells registry.old }
 {
     match prepared {
         Prepared::Stopped(effects) => {
-            let posts = effects.posts();
-            reserve_all(registry, posts, posts.len() as u64)?;
+            reserve_all(registry, effects.posts())?;
             Ok(How::StoppedBefore)
         }
         Prepared::Passed {
@@ -87,9 +75,12 @@ fn store<P: Plug, Q: Probe>(
 }
 
 /// Posts a write of a list, where there is a registration to which it goes.
-fn write<P: Plug, Q: Probe>(registry: &mut Registry<P, Q>, list: ValueList, to: Option<u64>)
-    requires { HasRoom P.plug_tells Q.probe_tells (length (write_if_any list to))
-        (write_if_any list to) registry.old }
+fn write<P: TellsCalls, Q: TellsReadings>(
+    registry: &mut Registry<P, Q>,
+    list: ValueList,
+    to: Option<u64>,
+)
+    requires { HasRoom P.plug_tells Q.probe_tells (write_if_any list to) registry.old }
     ensures { rows P.plug_tells Q.probe_tells registry.new ≡
         posted_live (write_if_any list to) (rows P.plug_tells Q.probe_tells registry.old) }
 {
@@ -100,13 +91,12 @@ fn write<P: Plug, Q: Probe>(registry: &mut Registry<P, Q>, list: ValueList, to: 
 }
 
 /// Posts the calls that handling a list makes.
-fn post_prepared<P: Plug, Q: Probe>(
+fn post_prepared<P: TellsCalls, Q: TellsReadings>(
     registry: &mut Registry<P, Q>,
     list: ValueList,
     prepared: Prepared,
 ) -> u64
-    requires { HasRoom P.plug_tells Q.probe_tells (length (prepared_posts list prepared))
-        (prepared_posts list prepared) registry.old }
+    requires { HasRoom P.plug_tells Q.probe_tells (prepared_posts list prepared) registry.old }
     ensures skipped { result ≡ prepared_skipped prepared }
     ensures rows { rows P.plug_tells Q.probe_tells registry.new ≡
         posted_live (prepared_posts list prepared)
@@ -138,8 +128,9 @@ struct WorkedOut {
     how: How,
 }
 
-/// Works out what handling a list of that data set comes to, makes room for its calls, and stores it.
-fn work_out<P: Plug, Q: Probe>(
+/// Works out what handling a list of that data set comes to, makes room for its calls, and stores it, unless it was
+/// stopped.
+fn work_out<P: TellsCalls, Q: TellsReadings>(
     alloc: Global,
     rules: &mut Rules,
     cache: &mut Cache,
@@ -159,8 +150,7 @@ fn work_out<P: Plug, Q: Probe>(
         prepared_cache set.now now cache.old list.now out.prepared) }
     ensures err { OnErr result (cache.new ≡ cache.old) }
     ensures room { IfOk result (λ out. HasRoom P.plug_tells Q.probe_tells
-        (length (prepared_posts list.now out.prepared)) (prepared_posts list.now out.prepared)
-        registry.new) }
+        (prepared_posts list.now out.prepared) registry.new) }
     ensures rows { rows P.plug_tells Q.probe_tells registry.new
         ≡ rows P.plug_tells Q.probe_tells registry.old }
     ensures same { rules.new ≡ rules.old }
@@ -177,19 +167,21 @@ fn set_of<'a>(types: &'a TypesDb, list: &ValueList) -> Option<&'a DataSet>
     types.get(list.id.type_name.as_str())
 }
 
-impl<P: Plug, Q: Probe> Core<P, Q> {
+impl<P: TellsCalls, Q: TellsReadings> Core<P, Q> {
     ghost use Rattle.cd_core.specs.Seen.{seen};
     ghost use Rattle.cd_core.specs.Stands.{Anyhow, Makes};
     ghost use Rattle.cd_core.specs.declared.faults.HandleFault.TheVariants as faults;
 
     /// Handles the first list of the write queue at a moment in 2^-30 s, as collectd.conf(5) has it in "Filter
     /// configuration": it passes the chain before the cache, the cache and the chain behind it, and the calls that this
-    /// makes are posted.
+    /// makes are posted. `Empty` where none waits; at `Memory` the list waits on, and all is as it was.
     pub fn handle(&mut self, alloc: Global, now: u64) -> Result<Handled, HandleFault>
         ensures step { IfOk result (λ handled. (actor : ℕ) →
             Makes (seen P.plug_tells Q.probe_tells self.old)
             (seen P.plug_tells Q.probe_tells self.new) Anyhow
             (entry.Handle actor now handled)) }
+        ensures queue { OnOk result ((seen P.plug_tells Q.probe_tells self.new).queue
+            ≡ drop 1 (seen P.plug_tells Q.probe_tells self.old).queue) }
         ensures err { OnErr result (seen P.plug_tells Q.probe_tells self.new
             ≡ seen P.plug_tells Q.probe_tells self.old) }
 

@@ -2,10 +2,11 @@
 //!
 //! - Stands on `cd_daemon`, which says what a one-thread daemon answers, and on the crates that keep the parts of the
 //!   state: `cd_registry`, `cd_queue`, `cd_cache`, `cd_chain`, `cd_types` and `cd_globals`. It takes no handle.
-//! - Read first `specs/Stands.antt`: when the core stands for a history; then `Legal.antt` and `Seen.antt`.
-//! - Each step leads from a core that stands for a history to one that stands for it with the event of the step; want of
-//!   memory changes nothing.
-//! - A new kind of event begins in `specs/Legal.antt`, with its part of the state in `specs/Stands.antt`.
+//! - Read first `specs/Stands.antt`: when the core stands for a history; then `Seen.antt`, and `Legal.antt` of
+//!   `cd_daemon`.
+//! - Each step leads from a core that stands for a history to one that stands for it with the event of the step; want
+//!   of memory changes nothing.
+//! - A new kind of event begins in `Legal.antt` of `cd_daemon`, with its part of the state in `specs/Stands.antt`.
 #![tactic(auto)]
 
 mod accepting;
@@ -27,7 +28,8 @@ mod state;
 pub use faults::{AcceptFault, FlushEnd, FlushFault, Got, HandleFault, QueryFault, RegisterFault};
 pub use flush::Flush;
 pub use laws::{
-    every_list_of_steps_stands, looking_changes_nothing, plugin_stays_out_until_it_comes_home,
+    core_without_work_is_idle, every_list_of_steps_stands, looking_changes_nothing,
+    plugin_stays_out_until_it_comes_home, plugin_stays_out_until_its_actor_brings_it_home,
     plugin_that_is_out_may_come_home,
 };
 pub use state::Core;

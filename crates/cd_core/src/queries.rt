@@ -4,21 +4,22 @@ ghost use Rattle.cd_core.specs.Replies.{get_reply};
 ghost use Rattle.cd_daemon.specs.Answers.{source_names};
 ghost use Rattle.cd_history.specs.declared.entry.Entry.TheVariants as entry;
 ghost use Rattle.cd_history.specs.declared.entry.Found.TheVariants as found;
+ghost use Rattle.cd_value.specs.Rows.{as_rows};
 ghost use Rattle.std.specs.Prelude.{IfOk, IfSome, None, Some, map, ℕ, ◌≡◌};
 
 use crate::{Core, Got, QueryFault};
 use cd_cache::CacheEntry;
-use cd_registry::{Plug, Probe};
+use cd_registry::{TellsCalls, TellsReadings};
 use cd_types::TypesDb;
 use cd_value::{DataSource, Memory, Names, Rows, Text, TryCopy};
 use std::alloc::Global;
 
-impl<P: Plug, Q: Probe> Core<P, Q> {
+impl<P: TellsCalls, Q: TellsReadings> Core<P, Q> {
     ghost use Rattle.cd_core.specs.Seen.{seen};
     ghost use Rattle.cd_core.specs.Stands.{Anyhow, Makes};
 
     /// The names of the data sources of the list that is cached under a name, and their rates, as GETVAL of
-    /// collectd-unixsock(5) tells them.
+    /// collectd-unixsock(5) tells them. `NoSuchValue` where none is, or `Memory`.
     pub fn get(&self, alloc: Global, name: &Text) -> Result<Got, QueryFault>
         ensures { IfSome (get_reply result) (λ reply. (actor : ℕ) →
             Makes (seen P.plug_tells Q.probe_tells self.now)
@@ -35,7 +36,7 @@ impl<P: Plug, Q: Probe> Core<P, Q> {
     }
 
     /// The time, in 2^-30 s, and the name of each cached list, in the order of the names' bytes, as LISTVAL of
-    /// collectd-unixsock(5) tells them.
+    /// collectd-unixsock(5) tells them, or `Memory`.
     pub fn list(&self, alloc: Global) -> Result<Rows, Memory>
         ensures { IfOk result (λ rows. (actor : ℕ) →
             Makes (seen P.plug_tells Q.probe_tells self.now)
@@ -43,6 +44,16 @@ impl<P: Plug, Q: Probe> Core<P, Q> {
             (entry.Query actor None (found.Listed rows))) }
     {
         self.cache.rows(alloc)
+    }
+
+    /// What `list` answers, with the names by reference.
+    pub fn listed(&self, alloc: Global) -> Result<Vec<(u64, &Text)>, Memory>
+        ensures step { IfOk result (λ rows. (actor : ℕ) →
+            Makes (seen P.plug_tells Q.probe_tells self.now)
+            (seen P.plug_tells Q.probe_tells self.now) Anyhow
+            (entry.Query actor None (found.Listed (as_rows rows.items)))) }
+    {
+        self.cache.listed(alloc)
     }
 }
 

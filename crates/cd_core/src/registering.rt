@@ -6,17 +6,20 @@ ghost use Rattle.cd_history.specs.declared.entry.Entry.TheVariants as entry;
 ghost use Rattle.cd_history.specs.declared.entry.Joining.TheVariants as joining;
 ghost use Rattle.cd_registry.specs.Rows.{home_of};
 ghost use Rattle.cd_registry.specs.Slots.{member_tells};
+ghost use Rattle.cd_registry.specs.declared.kinds.TheConstants.Kinds.{CONFIGURE, WRITE};
 ghost use Rattle.cd_registry.specs.declared.member.MemberOf.TheVariants as MemberOf;
 ghost use Rattle.std.specs.List.{filter};
 ghost use Rattle.std.specs.Prelude.{IfErr, IfOk, IfSome, OnErr, [], bit_and, if◌then◌else◌, nat_eq, not, vec_len, ℕ, ◌++◌, ◌<◌, ◌==◌, ◌∷◌, ◌≡◌};
 ghost use Rattle.std.specs.Vec.{vec_capacity};
 
 use crate::{Core, RegisterFault};
-use cd_registry::{AddFault, Call, Kinds, MemberOf, NotRegistered, Plug, Probe, RetireFault};
+use cd_registry::{
+    AddFault, Call, Kinds, MemberOf, NotRegistered, RetireFault, TellsCalls, TellsReadings,
+};
 use cd_value::{Memory, Refused, Text};
 use std::alloc::Global;
 
-impl<P: Plug, Q: Probe> Core<P, Q> {
+impl<P: TellsCalls, Q: TellsReadings> Core<P, Q> {
     ghost use Rattle.cd_core.specs.Objects.{TellsHome};
     ghost use Rattle.cd_core.specs.Seen.{seen};
     ghost use Rattle.cd_core.specs.Stands.{Anyhow, Makes, Stands};
@@ -26,7 +29,9 @@ impl<P: Plug, Q: Probe> Core<P, Q> {
     ghost use Rattle.cd_registry.specs.declared.calls.Call.TheVariants as calls;
 
     /// Registers a plug-in under a name for callbacks of these kinds, and gives its number. Where it is to be
-    /// configured it is called first with its block of the configuration, in canonical text.
+    /// configured it is called first with its block of the configuration, in canonical text. It comes back with
+    /// `Stopping` after a stop, `Reserved` for one of the daemon's own names, `NameTaken` where a live registration has
+    /// the name, `TableFull` where `LIVE_LIMIT` are live, the first of these, or with `Memory`. Then all is as it was.
     pub fn register(
         &mut self,
         alloc: Global,
@@ -68,7 +73,7 @@ impl<P: Plug, Q: Probe> Core<P, Q> {
     }
 
     /// Ends the life of the registration of a name, and gives its number: no call is made to it from then on, and those
-    /// that wait stay.
+    /// that wait stay. `NotRegistered` where no live registration has the name.
     pub fn close(&mut self, name: &Text) -> Result<u64, NotRegistered>
         ensures step { (actor : ℕ) → Makes (seen P.plug_tells Q.probe_tells self.old)
             (seen P.plug_tells Q.probe_tells self.new) Anyhow
@@ -86,7 +91,8 @@ impl<P: Plug, Q: Probe> Core<P, Q> {
     }
 
     /// Hands out the object of a closed registration for good, once it is at home and no call waits for it. Only the
-    /// actor that closed it asks for it.
+    /// actor that closed it asks for it. `NotRegistered` where it isn't closed or was handed out, `Out` where the
+    /// object is with an actor, `Pending` where calls wait.
     pub fn retire(&mut self, reg: u64) -> Result<MemberOf<P, Q>, RetireFault>
         ensures step { (actor : ℕ) → Makes (seen P.plug_tells Q.probe_tells self.old)
             (seen P.plug_tells Q.probe_tells self.new)
@@ -95,7 +101,7 @@ impl<P: Plug, Q: Probe> Core<P, Q> {
         ensures err { OnErr result (seen P.plug_tells Q.probe_tells self.new
             ≡ seen P.plug_tells Q.probe_tells self.old) }
 
-        // It tells what it told when it was registered, and all its calls with their answers.
+        // It tells what it told when it was registered, and the calls that were answered, each with its answer.
         ensures told { IfOk result (λ member. (K : Opening) (H : History) →
             Stands K (seen P.plug_tells Q.probe_tells self.old) H →
             TellsHome H reg (home_of (member_tells P.plug_tells Q.probe_tells member))) }
@@ -110,11 +116,12 @@ impl<P: Plug, Q: Probe> Core<P, Q> {
         requires room { vec_len self.old.writers < vec_capacity self.old.writers }
         ensures { seen P.plug_tells Q.probe_tells self.new ≡
             record (seen P.plug_tells Q.probe_tells self.old) {
-              rows = if bit_and kinds.0 16 == 16
+              rows = if bit_and kinds.0 CONFIGURE.0 == CONFIGURE.0
                   then with_row reg (after_post (calls.Configure config))
                   (rows P.plug_tells Q.probe_tells self.old.registry)
                   else rows P.plug_tells Q.probe_tells self.old.registry;
-              writers = self.old.writers.items ++ (if bit_and kinds.0 1 == 1 then reg ∷ [] else []);
+              writers = self.old.writers.items
+                  ++ (if bit_and kinds.0 WRITE.0 == WRITE.0 then reg ∷ [] else []);
             } }
     {
         if kinds.has(Kinds::WRITE) {

@@ -1,7 +1,7 @@
 //! The state, and the steps that touch one part of it.
 ghost use Rattle.cd_history.specs.History.{History};
 ghost use Rattle.cd_history.specs.declared.entry.Entry.TheVariants as entry;
-ghost use Rattle.std.specs.Prelude.{IfOk, [], length, ℕ, ◌≡◌};
+ghost use Rattle.std.specs.Prelude.{IfOk, [], length, true, ℕ, ◌≡◌};
 
 use crate::Flush;
 use cd_cache::{Cache, HashKey};
@@ -10,13 +10,13 @@ use cd_daemon::Rules;
 use cd_globals::Globals;
 use cd_history::Why;
 use cd_queue::WriteQueue;
-use cd_registry::{Plug, Probe, Registry};
+use cd_registry::{Registry, TellsCalls, TellsReadings};
 use cd_types::TypesDb;
 use cd_value::Memory;
 use std::alloc::Global;
 
 /// The daemon's state: what is in force, the value cache, the write queue, who is registered, and the flushes that are
-/// under way. Each method that begins an event is one step; its `actor` is whoever makes it. Contracts see a
+/// under way. Each method that makes an event is one step, whoever makes it (`actor` in its clause). Contracts see a
 /// `CoreSeen`, which doesn't tell for how many more calls and lists there is room.
 #[derive(Drop)]
 pub struct Core<P, Q> {
@@ -35,10 +35,10 @@ pub struct Core<P, Q> {
     pub(crate) stopped: bool,
 }
 
-impl<P: Plug, Q: Probe> Core<P, Q> {
-    ghost use Rattle.cd_core.specs.Answers.{limits_of, queued};
-    ghost use Rattle.cd_core.specs.Seen.{seen};
-    ghost use Rattle.cd_core.specs.Stands.{Anyhow, Makes, Stands, in_force};
+impl<P: TellsCalls, Q: TellsReadings> Core<P, Q> {
+    ghost use Rattle.cd_daemon.specs.Answers.{in_force, limits_of, queued};
+    ghost use Rattle.cd_core.specs.Seen.{opened, seen};
+    ghost use Rattle.cd_core.specs.Stands.{Anyhow, Makes, Stands};
     ghost use Rattle.cd_daemon.specs.declared.Opening.{Opening};
     ghost use Rattle.cd_history.specs.History.{is_stopped};
     ghost use Rattle.cd_queue.specs.Drops.{AreInOrder};
@@ -53,12 +53,7 @@ impl<P: Plug, Q: Probe> Core<P, Q> {
         post: Option<u64>,
     ) -> Result<Self, Memory>
         requires { AreInOrder (limits_of globals) }
-        ensures { IfOk result (λ core. Stands
-            (record {
-              types = types;
-              globals = globals;
-              rules = record { chains = chains; pre = pre; post = post };
-            })
+        ensures { IfOk result (λ core. Stands (opened globals types chains pre post)
             (seen P.plug_tells Q.probe_tells core) []) }
     {
         Core::keyed(alloc, globals, types, chains, pre, post, HashKey::new(0, 0))
@@ -66,6 +61,7 @@ impl<P: Plug, Q: Probe> Core<P, Q> {
 
     /// The state from the start: nobody is registered, and cache and queue are empty. `pre` and `post` are the numbers
     /// of the chains that run before and behind the cache; one that is no chain of the table means that there is none.
+    /// The key is that of the cache's hashes: no clause speaks of it. `Memory` doesn't come yet.
     pub fn keyed(
         alloc: Global,
         globals: Globals,
@@ -76,12 +72,7 @@ impl<P: Plug, Q: Probe> Core<P, Q> {
         key: HashKey,
     ) -> Result<Self, Memory>
         requires { AreInOrder (limits_of globals) }
-        ensures { IfOk result (λ core. Stands
-            (record {
-              types = types;
-              globals = globals;
-              rules = record { chains = chains; pre = pre; post = post };
-            })
+        ensures { IfOk result (λ core. Stands (opened globals types chains pre post)
             (seen P.plug_tells Q.probe_tells core) []) }
     {
         Ok(Core {
@@ -98,10 +89,12 @@ impl<P: Plug, Q: Probe> Core<P, Q> {
         })
     }
 
-    /// The daemon stops: it answers `Stopping` to what asks for more work.
+    /// The daemon stops: from then on it answers `Stopping` to registrations, lists and flushes.
     pub fn stop(&mut self, why: Why)
-        ensures { (actor : ℕ) → Makes (seen P.plug_tells Q.probe_tells self.old)
+        ensures step { (actor : ℕ) → Makes (seen P.plug_tells Q.probe_tells self.old)
             (seen P.plug_tells Q.probe_tells self.new) Anyhow (entry.Stop actor why) }
+        ensures rest { seen P.plug_tells Q.probe_tells self.new ≡
+            record (seen P.plug_tells Q.probe_tells self.old) { stopped = true } }
     {
         let _ = why;
         self.stopped = true;

@@ -1,9 +1,10 @@
-//! A small daemon, worked by hand: each call with ample memory.
+//! A small daemon, worked by hand: each call with ample memory, but `keyed`, which runs make.
 use crate::{AcceptFault, Core, FlushEnd, FlushFault, HandleFault, QueryFault, RegisterFault};
 use cd_chain::ChainTable;
 use cd_globals::Globals;
 use cd_history::{Handled, How, Why};
-use cd_registry::{Kinds, Plug, Probe, Reading, RetireFault, Telling};
+use cd_plugins::Telling;
+use cd_registry::{Kinds, Plug, Probe, Reading, RetireFault, TellsReadings};
 use cd_types::TypesDb;
 use cd_value::{
     Fates, FlushRequest, Identifier, Lists, Names, Offered, Sequence, Text, Value, ValueList,
@@ -15,11 +16,13 @@ use std::test::Fail;
 #[derive(Drop)]
 struct Silent;
 
-impl Probe for Silent {
+impl TellsReadings for Silent {
     ghost use Rattle.std.specs.Prelude.{None};
 
     ghost probe_tells = { λ probe. record { mark = 0; faults = 0; readings = None } };
+}
 
+impl Probe for Silent {
     fn read(&mut self, _now: u64) -> Reading {
         Reading::Memory
     }
@@ -119,6 +122,7 @@ fn handles_lists(rt: HostRuntime) -> Result<(), Fail> {
     let none = core.get(alloc, &Text::of(alloc, "h/p/derive")?);
     assert_eq!(rt; none.err(), Some(QueryFault::NoSuchValue));
     assert_eq!(rt; core.list(alloc)?.len(), 1);
+    assert_eq!(rt; core.listed(alloc)?.len(), 1);
     assert_eq!(rt; core.globals().interval, 10_737_418_240);
     Ok(())
 }
@@ -127,7 +131,8 @@ fn handles_lists(rt: HostRuntime) -> Result<(), Fail> {
 fn leases_and_retires(rt: HostRuntime) -> Result<(), Fail> {
     let alloc = rt.alloc();
     let mut core = small_core(alloc)?;
-    assert_eq!(rt; register(alloc, &mut core, "a", Kinds(17))?, Ok(0));
+    let both = Kinds(Kinds::WRITE.0 | Kinds::CONFIGURE.0);
+    assert_eq!(rt; register(alloc, &mut core, "a", both)?, Ok(0));
     assert_eq!(rt; register(alloc, &mut core, "b", Kinds::WRITE)?, Ok(1));
     let taken = register(alloc, &mut core, "a", Kinds::WRITE)?;
     assert_eq!(rt; taken, Err(RegisterFault::NameTaken(0)));

@@ -10,9 +10,10 @@ use Rattle.cd_history.specs.declared.entry.Entry.TheVariants as entry
 use Rattle.cd_registry.specs.declared.calls.Answer.{Answer}
 use Rattle.cd_registry.specs.declared.calls.AnsweredCall.{AnsweredCall}
 use Rattle.cd_registry.specs.declared.calls.Call.{Call}
-use Rattle.std.proofs.Common.{Bool, List, None, Option, Some, [], ap, arith, cond, false, is_some, length, length-append, nat_eq, not, refl, subst, suc, sym, true, zero, ℕ, ◌&&◌, ◌++◌, ◌+◌, ◌∙◌, ◌∷◌, ◌≡◌, ◌≤◌}
+use Rattle.std.proofs.Common.{Bool, List, None, Option, Some, [], ap, arith, cond, false, is_some, length, length-append, map, nat_eq, not, refl, subst, suc, sym, true, zero, ℕ, ◌&&◌, ◌++◌, ◌+◌, ◌∙◌, ◌∷◌, ◌≡◌, ◌≤◌}
 use Rattle.std.proofs.lemmas.Option.{slice_get_within}
 use Rattle.std.specs.List.{find, slice_get}
+use Rattle.std.specs.Option.{option_map}
 
 -- ---- calls with their answers
 
@@ -115,12 +116,12 @@ module _ (K : Opening) (P : History) where
       let home = both (is_plug g.joining && not (is_retired g.number P)) (not (is_some (taken_by g.number P))) three.0 in
       nobody_has (taken_by g.number P) home.1
 
-  found_at_home : (gs : List Registration) (r : ℕ) → elim (find (may_be_taken K P) gs) as (λ o. Option ℕ) [ None ↦ None | Some g ↦ Some g.number ] ≡ Some r → taken_by r P ≡ None
+  found_at_home : (gs : List Registration) (r : ℕ) → option_map (λ g. g.number) (find (may_be_taken K P) gs) ≡ Some r → taken_by r P ≡ None
   found_at_home [] r is = absurd (cc)
   found_at_home (g ∷ gs) r is = by (may_be_taken K P g) (found_at_home gs r) refl is
     where
-      by : (t : Bool) → (elim (find (may_be_taken K P) gs) as (λ o. Option ℕ) [ None ↦ None | Some g ↦ Some g.number ] ≡ Some r → taken_by r P ≡ None) → may_be_taken K P g ≡ t
-          → elim (cond t (Some g) (find (may_be_taken K P) gs)) as (λ o. Option ℕ) [ None ↦ None | Some g ↦ Some g.number ] ≡ Some r → taken_by r P ≡ None
+      by : (t : Bool) → (option_map (λ g. g.number) (find (may_be_taken K P) gs) ≡ Some r → taken_by r P ≡ None) → may_be_taken K P g ≡ t
+          → option_map (λ (g : Registration). g.number) (cond t (Some g) (find (may_be_taken K P) gs)) ≡ Some r → taken_by r P ≡ None
       by true rest able e =
           let same : g.number ≡ r = cc in
           let T : ℕ → Type 0 = λ n. taken_by n P ≡ None in
@@ -175,8 +176,12 @@ module _ (K : Opening) (r : ℕ) where
   one_more : (P : History) (e : Event) → Allowed K P e → Paired P → Paired (P ▸ e)
   one_more P (entry.Take a reg call) may p = by_taking P a reg call (nat_eq reg r) refl may p
   one_more P (entry.Done a reg answer) may p = by_answering P a reg answer (nat_eq reg r) refl may p
+  one_more P (entry.Register a name joining reply) may p =
+      let then = posted P (sent_to r (posts_of K P (entry.Register a name joining reply))) p in record { stands = then.stands; told = then.told }
   one_more P (entry.Handle a now reply) may p =
       let then = posted P (sent_to r (posts_of K P (entry.Handle a now reply))) p in record { stands = then.stands; told = then.told }
+  one_more P (entry.FlushOpen a request reply) may p =
+      let then = posted P (sent_to r (posts_of K P (entry.FlushOpen a request reply))) p in record { stands = then.stands; told = then.told }
   one_more P e may p = let then = posted P [] p in record { stands = then.stands; told = then.told }
 
   paired : (P : History) → IsLegal K P → Paired P
@@ -185,3 +190,24 @@ module _ (K : Opening) (r : ℕ) where
 
 pub answers_follow : (K : Opening) (P : History) (r : ℕ) → IsLegal K P → answered r P ≡ answered_calls (calls_to K r P) (answers_to r P)
 answers_follow K P r legal = (paired K r P legal).told
+
+-- ---- where nobody has the object, and none of its calls is left, all were answered
+
+at_home : (out : Option Call) (who : Option ℕ) (taken : ℕ) (calls : List Call) (answers : List Answer) → Stands out who taken calls answers → who ≡ None → AtHome who taken calls answers
+at_home None who taken calls answers s none = s
+at_home (Some call) who taken calls answers s none =
+    let S : Option ℕ → Type 0 = λ o. is_some o ≡ true in let e : false ≡ true = subst S none s.somebody in absurd (cc)
+
+all_paired : (calls : List Call) (answers : List Answer) → length answers ≡ length calls → map (λ (one : AnsweredCall). one.call) (answered_calls calls answers) ≡ calls
+all_paired [] answers same = refl
+all_paired (call ∷ calls) [] same = absurd (omega (arith, same))
+all_paired (call ∷ calls) (answer ∷ answers) same = ap (λ (xs : List Call). call ∷ xs) (all_paired calls answers (omega (arith, same)))
+
+pub all_answered : (K : Opening) (P : History) (r : ℕ) → IsLegal K P → taken_by r P ≡ None → length (calls_to K r P) ≤ takes r P
+    → map (λ (one : AnsweredCall). one.call) (answered r P) ≡ calls_to K r P
+all_answered K P r legal home none =
+    let p = paired K r P legal in
+    let h = at_home _ _ _ _ _ p.stands home in
+    let all : takes r P ≡ length (answers_to r P) = h.all in
+    let few : length (answers_to r P) ≤ length (calls_to K r P) = h.few in
+    ap (map (λ (one : AnsweredCall). one.call)) p.told ∙ all_paired (calls_to K r P) (answers_to r P) (omega (arith, all, few, none))

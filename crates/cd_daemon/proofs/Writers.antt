@@ -1,4 +1,4 @@
--- The calls that handling a list makes go to live writers alone.
+-- The calls that handling a list makes are writes, to live writers alone.
 use Rattle.cd_cache.specs.Cache.{CacheMap, updated}
 use Rattle.cd_chain.specs.declared.data.Action.TheVariants as actions
 use Rattle.cd_chain.specs.declared.data.Action.{Action}
@@ -25,23 +25,41 @@ both false b is = absurd (cc)
 same_number : (n : ℕ) → nat_eq n n ≡ true
 same_number n = grind arith
 
--- ---- what holds of the number of each live writer holds of the registration of each call
+-- a call that writes a list
+abbrev pub is_write : Call → Bool
+is_write (calls.Write list) = true
+is_write call = false
+
+-- what is true of all by two tests is so by each
+all_first : (h k : Post → Bool) (posts : List Post) → list_all (λ (p : Post). h p && k p) posts ≡ true → list_all h posts ≡ true
+all_first h k [] all = refl
+all_first h k (p ∷ posts) all =
+    let two = both (h p && k p) (list_all (λ (p : Post). h p && k p) posts) all in
+    rw (both (h p) (k p) two.0).0 (all_first h k posts two.1)
+
+all_second : (h k : Post → Bool) (posts : List Post) → list_all (λ (p : Post). h p && k p) posts ≡ true → list_all k posts ≡ true
+all_second h k [] all = refl
+all_second h k (p ∷ posts) all =
+    let two = both (h p && k p) (list_all (λ (p : Post). h p && k p) posts) all in
+    rw (both (h p) (k p) two.0).1 (all_second h k posts two.1)
+
+-- ---- each call is a write, and what holds of the number of each live writer holds of its registration
 
 module _ (holds : ℕ → Bool) where
   abbrev all_hold : List Post → Bool
-  all_hold posts = list_all (λ (p : Post). holds p.reg) posts
+  all_hold posts = list_all (λ (p : Post). holds p.reg && is_write p.call) posts
 
   all_hold-append : (xs ys : List Post) → all_hold xs ≡ true → all_hold ys ≡ true → all_hold (xs ++ ys) ≡ true
   all_hold-append [] ys first then = then
   all_hold-append (x ∷ xs) ys first then =
-      let two = both (holds x.reg) (all_hold xs) first in
+      let two = both (holds x.reg && is_write x.call) (all_hold xs) first in
       rw (two.0, all_hold-append xs ys two.1 then) refl
 
-  all_hold-to_each : (regs : List ℕ) (call : Call) → list_all holds regs ≡ true → all_hold (to_each regs call) ≡ true
-  all_hold-to_each [] call all = refl
-  all_hold-to_each (r ∷ regs) call all =
+  all_hold-to_each : (regs : List ℕ) (list : ValueList) → list_all holds regs ≡ true → all_hold (to_each regs (calls.Write list)) ≡ true
+  all_hold-to_each [] list all = refl
+  all_hold-to_each (r ∷ regs) list all =
       let two = both (holds r) (list_all holds regs) all in
-      rw (two.0, all_hold-to_each regs call two.1) refl
+      rw (two.0, all_hold-to_each regs list two.1) refl
 
   -- of a writer, where there is one
   abbrev holds_if_any : Option ℕ → Bool
@@ -73,7 +91,7 @@ module _ (holds : ℕ → Bool) where
 
     hold-perform : (done : Effects) (action : Action) → all_hold done.posts ≡ true → all_hold (perform regs done action).posts ≡ true
     hold-perform done (actions.Write [] list) before =
-        all_hold-append done.posts (to_each (listeners WRITE regs) (calls.Write list)) before (all_hold-to_each (listeners WRITE regs) (calls.Write list) all)
+        all_hold-append done.posts (to_each (listeners WRITE regs) (calls.Write list)) before (all_hold-to_each (listeners WRITE regs) list all)
     hold-perform done (actions.Write (name ∷ names) list) before = hold-writes list (each_once (name ∷ names)) done before
     hold-perform done (actions.Notify note) before = before
 
@@ -96,7 +114,19 @@ module _ (holds : ℕ → Bool) where
     hold-handling_as (Some set) rules cache list now = hold-after_run rules set now cache (run_before rules (scene_of set cache now) list)
 
     pub hold-handling : (K : Opening) (cache : CacheMap) (list : ValueList) (now : ℕ) → list_all (λ (p : Post). holds p.reg) (handling K cache regs list now).posts ≡ true
-    hold-handling K cache list now = hold-handling_as (set_of K.types list) K.rules cache list now
+    hold-handling K cache list now =
+        all_first (λ (p : Post). holds p.reg) (λ (p : Post). is_write p.call) (handling K cache regs list now).posts (hold-handling_as (set_of K.types list) K.rules cache list now)
+
+    written_alone : (K : Opening) (cache : CacheMap) (list : ValueList) (now : ℕ) → list_all (λ (p : Post). is_write p.call) (handling K cache regs list now).posts ≡ true
+    written_alone K cache list now =
+        all_second (λ (p : Post). holds p.reg) (λ (p : Post). is_write p.call) (handling K cache regs list now).posts (hold-handling_as (set_of K.types list) K.rules cache list now)
+
+any_number : (ns : List ℕ) → list_all (λ (n : ℕ). true) ns ≡ true
+any_number [] = refl
+any_number (n ∷ ns) = any_number ns
+
+pub writes-handling : (regs : List Registration) (K : Opening) (cache : CacheMap) (list : ValueList) (now : ℕ) → list_all (λ (p : Post). is_write p.call) (handling K cache regs list now).posts ≡ true
+writes-handling regs K cache list now = written_alone (λ n. true) regs (any_number (listeners WRITE regs)) K cache list now
 
 -- ---- where there is one live registration, all calls go to it
 

@@ -4,3 +4,4 @@ pub mod Calls
 pub mod Answers
 pub mod Legal
 pub mod Settled
+pub mod Flushes

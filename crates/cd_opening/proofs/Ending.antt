@@ -37,11 +37,7 @@ settings_kind_leaves path files after items fault settings.WrongArgs ends = (ite
 settings_kind_leaves path files after items fault settings.LimitsCrossed ends = (items, ends)
 settings_kind_leaves path files after items fault settings.TooMany ends = (items, ends)
 settings_kind_leaves path files after items fault settings.BadPattern ends = (items, ends)
-settings_kind_leaves path files after items fault settings.DuplicateChain ends = (items, ends)
-settings_kind_leaves path files after items fault settings.EmptyRule ends = (items, ends)
-settings_kind_leaves path files after items fault settings.UnknownChain ends = (items, ends)
-settings_kind_leaves path files after items fault (settings.JumpCycle names) ends = (items, ends)
-settings_kind_leaves path files after items fault settings.ChainTooHeavy ends = (items, ends)
+settings_kind_leaves path files after items fault (settings.Chain why) ends = (items, ends)
 
 pub settings_leave : (path : List ℕ) (files after : Option (List FileTells)) (items : List Item) (fault : SettingsFault) (e : OpeningFault) → EndsBehind path files after items → e ≡ of_settings fault → LeavesBy path files after e
 settings_leave path files after items fault e ends is =
@@ -56,11 +52,7 @@ settings_come_at path files items settings.UnknownOption line has told = has (in
 settings_come_at path files items settings.WrongArgs line has told = has (inl told)
 settings_come_at path files items settings.LimitsCrossed line has told = has (inl told)
 settings_come_at path files items settings.TooMany line has told = has (inl told)
-settings_come_at path files items settings.DuplicateChain line has told = has (inl told)
-settings_come_at path files items settings.EmptyRule line has told = has (inl told)
-settings_come_at path files items settings.UnknownChain line has told = has (inl told)
-settings_come_at path files items (settings.JumpCycle names) line has told = has (inl told)
-settings_come_at path files items settings.ChainTooHeavy line has told = has (inl told)
+settings_come_at path files items (settings.Chain why) line has told = has (inl told)
 settings_come_at path files items settings.BadPattern line has told = has (by (has_pattern_at items line) refl told)
   where
     by : (b : Bool) → has_pattern_at items line ≡ b → Refuses {Y = Settings} {F = SettingsFault} (if b then None else Some (bad_pattern line)) (settings_of items)

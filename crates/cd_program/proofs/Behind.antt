@@ -4,7 +4,7 @@ use Rattle.cd_command.specs.declared.command.Mode.{Mode}
 use Rattle.cd_conf.specs.declared.item.Item.{Item}
 use Rattle.cd_daemon.specs.declared.Opening.{Opening}
 use Rattle.cd_dialogue.specs.Exchanges.{Exchanged}
-use Rattle.cd_dialogue.specs.Inputs.{AreFirstOf, IsOver}
+use Rattle.cd_dialogue.specs.Inputs.{AreFirstOf, HearingFailed, IsOver, MemoryLacked}
 use Rattle.cd_history.specs.declared.given.Given.{Given}
 use Rattle.cd_io.proofs.Moves.{grows_none, loses_none}
 use Rattle.cd_io.proofs.Rises.{later_rose, rose_later}
@@ -18,7 +18,7 @@ use Rattle.cd_io.specs.World.{FileTells, WorldTells}
 use Rattle.cd_io.specs.declared.gathering.Gathering.{Gathering}
 use Rattle.cd_opening.specs.declared.opening.Opened.{Opened}
 use Rattle.cd_program.specs.Gathered.{PromisesGathered, PromisesLink, WasUnserved, end_after}
-use Rattle.cd_serve.specs.Promises.{Does, HasRunCommand, IsTaken, Promises, PromisesLines, WasRefused, Writes}
+use Rattle.cd_serve.specs.Promises.{Does, HasBegun, HasBegunUnasked, HasRunCommand, IsTaken, Promises, PromisesLines, WasRefused, Writes}
 use Rattle.cd_serve.specs.Shelf.{places}
 use Rattle.cd_serve.specs.Started.{HasTried}
 use Rattle.cd_serve.specs.Tells.{Pairs}
@@ -26,7 +26,7 @@ use Rattle.cd_serve.specs.declared.end.End.TheVariants as ends
 use Rattle.cd_serve.specs.declared.end.End.{End}
 use Rattle.cd_serve.specs.declared.program.TheConstants.{INPUT_LIMIT}
 use Rattle.cd_sock.specs.Lines.{Cut}
-use Rattle.cd_transcript.specs.LineRuns.{OnShelf}
+use Rattle.cd_transcript.specs.LineRuns.{Loaded, OnShelf}
 use Rattle.std.proofs.Common.{Bool, Err, List, None, Ok, OnErr, Option, Result, Some, [], ap, append-nil, arith, false, inl, inr, is_err, length, refl, subst, sym, true, ℕ, ◌++◌, ◌<◌, ◌∙◌, ◌≡◌, ◌≤◌, ◌⊎◌}
 use Rattle.std.specs.Option.{option_map, option_to_list}
 
@@ -92,13 +92,23 @@ exchanged_on heard text before told after fin e = record {
   quiets = fin.flushes.quiets ∙ e.quiets;
 }
 
-module _ (K : Opening) (loads : List ℕ → Bool) (shelf back : List OnShelf) (given : List Given) (begun : Pairs) (before told after : LinkTells) where
+module _ (K : Opening) (loads : List OnShelf → List Loaded) (shelf back : List OnShelf) (given : List Given) (begun : Pairs) (before told after : LinkTells) where
+  -- how far it came at want of memory
+  abbrev Lacked : LinkTells → Type 0
+  Lacked link =
+      MemoryLacked (λ lines given_up text. HasBegun K loads shelf begun lines text) INPUT_LIMIT before link
+      ⊎ HearingFailed (HasBegunUnasked K loads shelf begun) INPUT_LIMIT before link
+
+  lacked_counts : Lacked told → before.faults ≤ told.faults
+  lacked_counts (inl lacked) = lacked.spoke.faults
+  lacked_counts (inr hearing) = hearing.spoke.faults
+
   lines_counts : (end : End) → PromisesLines K loads shelf back given begun before told end → before.faults ≤ told.faults
   lines_counts ends.Done s = s.spoke.faults
   lines_counts ends.InputTooLong s = s.exchanged.spoke.faults
   lines_counts ends.LinkFault (inl hearing) = hearing.spoke.faults
   lines_counts ends.LinkFault (inr saying) = saying.spoke.faults
-  lines_counts ends.Memory s = s.spoke.faults
+  lines_counts ends.Memory s = lacked_counts s.served
   lines_counts ends.Usage s = absurd s
   lines_counts (ends.ConfFault fault) s = absurd s
   lines_counts (ends.TypesFault path fault) s = absurd s
@@ -109,6 +119,30 @@ module _ (K : Opening) (loads : List ℕ → Bool) (shelf back : List OnShelf) (
   lines_rose : PromisesLines K loads shelf back given begun before told ends.LinkFault → Rose before.faults told.faults
   lines_rose (inl hearing) = hearing.rose
   lines_rose (inr saying) = saying.rose
+
+  rose_on : Finishes false told after → Rose before.faults told.faults → Rose before.faults after.faults
+  rose_on fin rose = let R : ℕ → Type 0 = λ n. Rose before.faults n in subst R (sym fin.flushes.faults) rose
+
+  lacked_on : Lacked told → Finishes false told after → Lacked after
+  lacked_on (inl s) fin = inl (record {
+    heard = s.heard;
+    lines = s.lines;
+    given_up = s.given_up;
+    first = still_first before told after s.heard (s.lines ++ option_to_list s.given_up) fin s.first;
+    text = s.text;
+    served = s.served;
+    spoke = on_time s.heard s.text before told after s.spoke fin;
+    faults = fin.flushes.faults ∙ s.faults;
+  })
+  lacked_on (inr s) fin = inr (record {
+    heard = s.heard;
+    text = s.text;
+    short = s.short;
+    served = s.served;
+    spoke = on_time s.heard s.text before told after s.spoke fin;
+    rose = rose_on fin s.rose;
+    quiets = fin.flushes.quiets ∙ s.quiets;
+  })
 
   -- at any end but a fault of the link
   lines_on : (end : End) → PromisesLines K loads shelf back given begun before told end → Finishes false told after → (end ≡ ends.LinkFault → ⊥)
@@ -129,16 +163,7 @@ module _ (K : Opening) (loads : List ℕ → Bool) (shelf back : List OnShelf) (
     served = s.served;
     exchanged = exchanged_on s.heard s.text before told after fin s.exchanged;
   }
-  lines_on ends.Memory s fin other = record {
-    heard = s.heard;
-    lines = s.lines;
-    given_up = s.given_up;
-    first = still_first before told after s.heard (s.lines ++ option_to_list s.given_up) fin s.first;
-    text = s.text;
-    served = s.served;
-    spoke = on_time s.heard s.text before told after s.spoke fin;
-    faults = fin.flushes.faults ∙ s.faults;
-  }
+  lines_on ends.Memory s fin other = record { returned = s.returned; served = lacked_on s.served fin }
   lines_on ends.LinkFault s fin other = absurd (other refl)
   lines_on ends.Usage s fin other = absurd s
   lines_on (ends.ConfFault fault) s fin other = absurd s

@@ -1,7 +1,7 @@
 //! The program over what the machine gives it.
 use crate::{Outcome, run_gathered};
 use cd_io::{RealWorld, Streams};
-use cd_registry::Telling;
+use cd_plugins::Telling;
 use cd_serve::End;
 use std::env;
 use std::io::ErrorKind;

@@ -10,10 +10,10 @@ ghost use Rattle.cd_serve.specs.Promises.{IsTaken};
 ghost use Rattle.cd_serve.specs.Shelf.{on_shelf, places};
 ghost use Rattle.cd_serve.specs.Started.{AreAccepted, AreRefused, HasTried, IsFree, NoneFailed, end_at};
 ghost use Rattle.std.specs.Io.KnownBytes.{Appends};
-ghost use Rattle.std.specs.Prelude.{IfNone, IfOk, IfSome, None, OnOk, Some, [], is_err, map, string_bytes, ◌≡◌, ◌⊎◌};
+ghost use Rattle.std.specs.Prelude.{IfNone, IfOk, IfSome, None, OnOk, Some, [], codes, is_err, map, string_bytes, ◌∷◌, ◌≡◌, ◌⊎◌};
 
 use cd_io::{Failed, Gathering, Link, World};
-use cd_registry::{Kinds, Plug};
+use cd_registry::{Kinds, Plug, TellsCalls};
 use cd_serve::{End, Ran, RanOf, Shelved, run, status, text_of};
 use cd_value::{Memory, Text};
 use std::alloc::Global;
@@ -74,9 +74,11 @@ fn end_after(end: End, finished: Result<(), Failed>) -> End
 
 /// A shelf with one writer, `w`.
 fn shelf_of(alloc: Global, object: Box<dyn Plug + Send>) -> Result<Vec<Shelved>, Memory>
-    ensures { IfOk result (λ plugs.
-        on_shelf ⟦<Box<dyn Plug + Send> as Plug>⟧.plug_tells plugs.items
-        ≡ writer (⟦<Box<dyn Plug + Send> as Plug>⟧.plug_tells object)) }
+    ensures shelf { IfOk result (λ plugs.
+        on_shelf ⟦<Box<dyn Plug + Send> as TellsCalls>⟧.plug_tells plugs.items
+        ≡ writer (⟦<Box<dyn Plug + Send> as TellsCalls>⟧.plug_tells object)) }
+    ensures names { IfOk result (λ plugs.
+        map (λ plug. plug.name) plugs.items ≡ codes "w" ∷ []) }
 {
     let plug = Shelved {
         name: Text::of(alloc, "w")?,
@@ -101,16 +103,16 @@ pub fn run_gathered<W: World, L: Link>(
 ) -> (Option<Ran>, L)
     ensures promises { IfSome result.0 (λ ran. PromisesGathered
         (map string_bytes words.now) (W.world_tells world.old).files
-        (writer (⟦<Box<dyn Plug + Send> as Plug>⟧.plug_tells object))
-        (on_shelf ⟦<Box<dyn Plug + Send> as Plug>⟧.plug_tells ran.plugs.items)
+        (writer (⟦<Box<dyn Plug + Send> as TellsCalls>⟧.plug_tells object))
+        (on_shelf ⟦<Box<dyn Plug + Send> as TellsCalls>⟧.plug_tells ran.plugs.items)
         ran.given
         (record { clock = W.world_clock_pair world.old; dice = W.world_dice_pair world.old })
         (L.link_tells link) (L.link_tells result.1)
         ran.end) }
     ensures link { IfSome result.0 (λ ran. PromisesLink
         (map string_bytes words.now) (W.world_tells world.old).files
-        (writer (⟦<Box<dyn Plug + Send> as Plug>⟧.plug_tells object))
-        (on_shelf ⟦<Box<dyn Plug + Send> as Plug>⟧.plug_tells ran.plugs.items)
+        (writer (⟦<Box<dyn Plug + Send> as TellsCalls>⟧.plug_tells object))
+        (on_shelf ⟦<Box<dyn Plug + Send> as TellsCalls>⟧.plug_tells ran.plugs.items)
         ran.given
         (record { clock = W.world_clock_pair world.old; dice = W.world_dice_pair world.old })
         (L.link_tells link) (L.link_tells result.1)
@@ -134,8 +136,8 @@ pub fn run_gathered<W: World, L: Link>(
         → IsTaken of.mode (L.link_tells link) (L.link_tells result.1)
         → (ran.end ≡ End.Done) ⊎ IsFree of.file (W.world_tells world.old).files ran.end) }
     ensures back { IfSome result.0 (λ ran.
-        places (on_shelf ⟦<Box<dyn Plug + Send> as Plug>⟧.plug_tells ran.plugs.items)
-        ≡ places (writer (⟦<Box<dyn Plug + Send> as Plug>⟧.plug_tells object))) }
+        places (on_shelf ⟦<Box<dyn Plug + Send> as TellsCalls>⟧.plug_tells ran.plugs.items)
+        ≡ places (writer (⟦<Box<dyn Plug + Send> as TellsCalls>⟧.plug_tells object))) }
     ensures probes { IfSome result.0 (λ ran. ran.probes.items ≡ []) }
     ensures none { IfNone result.0 (result.1 ≡ link) }
 {

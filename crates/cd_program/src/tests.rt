@@ -1,7 +1,7 @@
 //! What reaches the link behind the gathered replies, by the calls that fail, and what the program writes at its end.
 use crate::{Outcome, run_gathered};
 use cd_io::{LinkPlan, MemLink, MemWorld};
-use cd_registry::Telling;
+use cd_plugins::Telling;
 use cd_serve::{End, INPUT_LIMIT};
 use std::alloc::Global;
 use std::test::Fail;

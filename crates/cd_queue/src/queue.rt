@@ -1,8 +1,9 @@
 //! The write queue and its calls.
-ghost use Rattle.cd_queue.specs.Drops.{AreInOrder, after_offer, fate_of, is_dropped};
-ghost use Rattle.std.specs.Prelude.{IfErr, IfOk, IsOk, OnErr, OnOk, [], drop, length, option_copied, slice_get, ◌+◌, ◌<◌, ◌≡◌, ◌≤◌};
+ghost use Rattle.cd_queue.specs.Drops.{AreInOrder, after_offer, after_offers, fate_of, fates_of, is_dropped};
+ghost use Rattle.std.specs.Prelude.{IfErr, IfOk, IsOk, OnErr, OnOk, [], drop, length, option_copied, slice_get, vec_len, ◌+◌, ◌<◌, ◌≡◌, ◌≤◌};
+ghost use Rattle.std.specs.Vec.{vec_capacity};
 
-use cd_value::{Memory, Offered, Refused, ValueList};
+use cd_value::{Memory, Offered, Refused, Sequence, ValueList};
 use std::alloc::Global;
 use std::collections::VecDeque;
 use std::marker::Model;
@@ -75,6 +76,66 @@ impl WriteQueue {
                 why: Memory,
             }),
         }
+    }
+
+    /// Offers lists in order, each with its word, and gives what became of each; all of them or, where memory is
+    /// lacking, none.
+    pub fn offer_all(
+        &mut self,
+        alloc: Global,
+        lists: Sequence<ValueList>,
+        words: &[u64],
+    ) -> Result<Sequence<Offered>, Refused<Sequence<ValueList>, Memory>>
+        requires { length words.now ≡ length lists }
+        ensures fates { IfOk result (λ fates.
+            fates ≡ fates_of self.old.limits (length self.old.lists) words.now) }
+        ensures lists { IfOk result (λ fates.
+            self.new.lists ≡ after_offers self.old.lists lists fates) }
+        ensures err { OnErr result (self.new.lists ≡ self.old.lists) }
+        ensures back { IfErr result (λ refused. refused.value ≡ lists) }
+        ensures limits { self.new.limits ≡ self.old.limits }
+    {
+        let Ok(fates) = Vec::with_capacity(alloc, lists.len()) else {
+            return Err(Refused {
+                value: lists,
+                why: Memory,
+            });
+        };
+        if self.reserve(lists.len() as u64).is_err() {
+            return Err(Refused {
+                value: lists,
+                why: Memory,
+            });
+        }
+        Ok(self.offer_each(lists, words, fates))
+    }
+
+    /// Offers lists in order, each with its word, where there is room for all of them and for their fates.
+    fn offer_each(
+        &mut self,
+        lists: Sequence<ValueList>,
+        words: &[u64],
+        mut fates: Vec<Offered>,
+    ) -> Sequence<Offered>
+        requires words { length words.now ≡ length lists }
+        requires room { length lists ≤ self.old.spare }
+        requires empty { vec_len fates ≡ 0 }
+        requires capacity { length lists ≤ vec_capacity fates }
+        ensures fates { result ≡ fates_of self.old.limits (length self.old.lists) words.now }
+        ensures lists { self.new.lists ≡ after_offers self.old.lists lists result }
+        ensures limits { self.new.limits ≡ self.old.limits }
+    {
+        let mut rest = lists.into_vec().into_iter();
+        for word in words {
+            let Some(list) = rest.next() else {
+                unreachable!()
+            };
+            match self.offer(list, *word) {
+                Ok(fate) => fates.push_reserved(fate),
+                Err(_) => unreachable!(),
+            }
+        }
+        Sequence::from_vec(fates)
     }
 
     /// Makes room for a number of lists.

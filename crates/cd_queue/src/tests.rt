@@ -1,11 +1,10 @@
-//! Cases worked by hand from the rule, and the loop of a caller who offers many lists.
-ghost use Rattle.cd_queue.specs.Drops.{after_offer, after_offers, fate_of, fates_of};
+//! Cases worked by hand from the rule.
+ghost use Rattle.cd_queue.specs.Drops.{after_offer, fate_of};
 ghost use Rattle.std.specs.Prelude.{IfOk, length, ◌≡◌, ◌≤◌};
 
 use crate::WriteQueue;
 use cd_value::{Identifier, Memory, Offered, Sequence, ValueList};
 use std::alloc::Global;
-use std::collections::VecDeque;
 use std::test::Fail;
 
 fn list_at(alloc: Global, time: u64) -> Result<ValueList, Fail> {
@@ -17,10 +16,10 @@ fn list_at(alloc: Global, time: u64) -> Result<ValueList, Fail> {
     })
 }
 
-fn lists_at(alloc: Global, times: &[u64]) -> Result<VecDeque<ValueList>, Fail> {
-    let mut lists = VecDeque::new(alloc);
+fn lists_at(alloc: Global, times: &[u64]) -> Result<Sequence<ValueList>, Fail> {
+    let mut lists = Sequence::new(alloc);
     for time in times {
-        lists.push_back(list_at(alloc, *time)?)?;
+        lists.push(list_at(alloc, *time)?)?;
     }
     Ok(lists)
 }
@@ -34,28 +33,6 @@ fn offer(queue: &mut WriteQueue, list: ValueList, word: u64) -> Result<Offered, 
     ensures limits { queue.new.limits ≡ queue.old.limits }
 {
     queue.offer(list, word).map_err(|refused| refused.why)
-}
-
-/// Offers lists in order, each with its word.
-fn offer_all(
-    alloc: Global,
-    queue: &mut WriteQueue,
-    mut lists: VecDeque<ValueList>,
-    words: &[u64],
-) -> Result<Vec<Offered>, Memory>
-    requires { length lists.items ≡ length words.now }
-    ensures fates { IfOk result (λ fates.
-        fates.items ≡ fates_of queue.old.limits (length queue.old.lists) words.now) }
-    ensures lists { IfOk result (λ fates.
-        queue.new.lists ≡ after_offers queue.old.lists lists.items fates.items) }
-{
-    let mut fates = Vec::new(alloc);
-    for word in words {
-        if let Some(list) = lists.pop_front() {
-            fates.push(offer(queue, list, *word)?)?;
-        }
-    }
-    Ok(fates)
 }
 
 /// A queue with that many lists.
@@ -96,7 +73,8 @@ fn keeps_order(rt: HostRuntime) -> Result<(), Fail> {
     queue.reserve(2)?;
     let lists = lists_at(alloc, &[1, 2, 3])?;
     assert_eq!(rt; lists.len(), 3);
-    let fates = offer_all(alloc, &mut queue, lists, &[5, 6, 7])?;
+    let offered = queue.offer_all(alloc, lists, &[5, 6, 7]);
+    let fates = offered.map_err(|refused| refused.why)?;
     assert_eq!(rt;
         fates.as_slice(),
         [Offered::Kept, Offered::Kept, Offered::Dropped].as_slice()

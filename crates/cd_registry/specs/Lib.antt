@@ -1,6 +1,4 @@
 pub mod Told
-pub mod Telling
-pub mod Answering
 pub mod Rows
 pub mod Faults
 pub mod Slots

@@ -18,7 +18,6 @@ mod plug;
 mod probe;
 mod registry;
 mod slot;
-mod telling;
 
 pub use calls::{Answer, AnsweredCall, Call};
 use cd_value::Sequence;
@@ -27,15 +26,12 @@ pub use kinds::Kinds;
 pub use lease::{Entered, EnteredOf, Lease, LeaseOf};
 pub use member::{Member, MemberOf};
 pub use place::Place;
-pub use plug::{Plug, PlugTells};
-pub use probe::{Probe, ProbeTells, Reading, TimedReading};
+pub use plug::{Plug, PlugTells, TellsCalls};
+pub use probe::{Probe, ProbeTells, Reading, TellsReadings, TimedReading};
 pub use registry::Registry;
-pub use telling::Telling;
 
 /// The numbers of registrations, in order.
 pub type Regs = Sequence<u64>;
 
-#[cfg(test)]
-mod registry_tests;
 #[cfg(test)]
 mod tests;

@@ -13,22 +13,29 @@ pub struct PlugTells {
     pub calls: Option<Sequence<AnsweredCall>>,
 }
 
-/// A plug-in that the daemon calls.
-pub trait Plug: Send + Drop {
-    ghost use Rattle.cd_registry.specs.Told.{told_after};
+/// What tells the calls that it got. Whoever keeps such objects needs no more of them: the registry, and what stands on
+/// it, never calls them.
+pub trait TellsCalls: Drop {
     ghost use Rattle.cd_registry.specs.declared.plug.PlugTells.{PlugTells};
 
     ghost plug_tells: { Self → PlugTells };
+}
+
+/// A plug-in that the daemon calls.
+pub trait Plug: TellsCalls + Send {
+    ghost use Rattle.cd_registry.specs.Told.{told_after};
 
     /// Calls it. It tells this call with this answer behind the others, or answers that memory was lacking and tells
     /// no calls from then on.
     fn enter(&mut self, call: &Call) -> Answer
-        ensures { plug_tells self.new ≡ told_after call.now result (plug_tells self.old) };
+        ensures { Self.plug_tells self.new ≡ told_after call.now result (Self.plug_tells self.old) };
+}
+
+impl TellsCalls for Box<dyn Plug + Send> {
+    ghost plug_tells = { λ b. (Plug-box b).TellsCalls.plug_tells b.value };
 }
 
 impl Plug for Box<dyn Plug + Send> {
-    ghost plug_tells = { λ b. (Plug-box b).plug_tells b.value };
-
     fn enter(&mut self, call: &Call) -> Answer {
         (**self).enter(call)
     }

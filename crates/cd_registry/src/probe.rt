@@ -30,23 +30,29 @@ pub struct ProbeTells {
     pub readings: Option<Sequence<TimedReading>>,
 }
 
-/// A plug-in that the daemon reads.
-pub trait Probe: Send + Drop {
-    ghost use Rattle.cd_registry.specs.Told.{Reads};
+/// What tells the readings that it gave.
+pub trait TellsReadings: Drop {
     ghost use Rattle.cd_registry.specs.declared.probe.ProbeTells.{ProbeTells};
 
     ghost probe_tells: { Self → ProbeTells };
+}
+
+/// A plug-in that the daemon reads.
+pub trait Probe: TellsReadings + Send {
+    ghost use Rattle.cd_registry.specs.Told.{Reads};
 
     /// Reads it at a moment, in units of 2^-30 s. It answers `Failed` only where its count of faults rose in this call.
     /// It tells this moment and reading behind the others, or answers that memory was lacking and tells no readings
     /// from then on.
     fn read(&mut self, now: u64) -> Reading
-        ensures { Reads now result (probe_tells self.old) (probe_tells self.new) };
+        ensures { Reads now result (Self.probe_tells self.old) (Self.probe_tells self.new) };
+}
+
+impl TellsReadings for Box<dyn Probe + Send> {
+    ghost probe_tells = { λ b. (Probe-box b).TellsReadings.probe_tells b.value };
 }
 
 impl Probe for Box<dyn Probe + Send> {
-    ghost probe_tells = { λ b. (Probe-box b).probe_tells b.value };
-
     fn read(&mut self, now: u64) -> Reading {
         (**self).read(now)
     }

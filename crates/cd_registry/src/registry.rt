@@ -1,6 +1,6 @@
 //! The registry and its calls.
 ghost use Rattle.cd_registry.specs.Faults.{add_fault, fault_of, is_reserved, retire_fault};
-ghost use Rattle.cd_registry.specs.Rows.{At, IsHomeFor, IsLive, IsPlugOut, IsProbeHome, IsProbeOut, IsReady, after_back, after_close, after_give, after_lend, after_post, after_retire, after_take, home_of, is_ready, listening, live_count, live_number, live_number_with, new_row, numbers_of, with_row};
+ghost use Rattle.cd_registry.specs.Rows.{At, IsHomeFor, IsLive, IsPlugOut, IsProbeHome, IsProbeOut, IsReady, after_back, after_close, after_give, after_lend, after_post, after_retire, after_take, has_kinds, home_of, is_live_as, is_ready, listening, live_count, live_number, live_number_with, new_row, numbers_of, with_row};
 ghost use Rattle.cd_registry.specs.Slots.{has_slot_kinds, is_slot_live_as, is_slot_ready, member_tells};
 ghost use Rattle.std.specs.List.{All};
 ghost use Rattle.std.specs.Option.{ok_or};
@@ -14,7 +14,7 @@ use crate::flags::Flags;
 use crate::lease::{EnteredOf, LeaseOf};
 use crate::member::MemberOf;
 use crate::slot::Slot;
-use crate::{Call, Kinds, Plug, Probe, Regs};
+use crate::{Call, Kinds, Regs, TellsCalls, TellsReadings};
 use cd_value::{Memory, Refused, Sequence, Text};
 use std::alloc::Global;
 use std::collections::VecDeque;
@@ -29,7 +29,7 @@ pub struct Registry<P, Q> {
     ghost marked: { ready.flags ≡ map is_slot_ready slots.items },
 }
 
-impl<P: Plug, Q: Probe> Registry<P, Q> {
+impl<P: TellsCalls, Q: TellsReadings> Registry<P, Q> {
     ghost use Rattle.cd_registry.specs.Registry.{KeepsOtherRoom, KeepsRoom, UsesRoom, rows, spare_of};
     ghost use Rattle.cd_registry.specs.declared.place.Place.{Place};
 
@@ -114,6 +114,15 @@ impl<P: Plug, Q: Probe> Registry<P, Q> {
     {
         let at = reg as usize;
         at < self.slots.len() && self.slots[at].live
+    }
+
+    /// Whether there is a registration of that number, and it is live, has that name and all of these kinds.
+    pub fn is_named(&self, reg: u64, name: &Text, kinds: Kinds) -> bool
+        ensures { IsTrue result ↔ At (rows P.plug_tells Q.probe_tells self.now) reg
+            (λ row. IsTrue (is_live_as name.now row && has_kinds kinds.0 row)) }
+    {
+        let at = reg as usize;
+        at < self.slots.len() && self.slots[at].is_live_as(name) && self.slots[at].has_kinds(kinds)
     }
 
     /// The number of the live registration of a name, where it has all of these kinds.

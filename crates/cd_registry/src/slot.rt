@@ -9,7 +9,7 @@ ghost use Rattle.std.specs.VecDeque.{deque_capacity, deque_len};
 use crate::faults::RetireFault;
 use crate::member::MemberOf;
 use crate::place::Place;
-use crate::{Call, Kinds, Plug, Probe};
+use crate::{Call, Kinds, TellsCalls, TellsReadings};
 use cd_value::{Memory, Refused, Text};
 use std::collections::VecDeque;
 use std::mem;
@@ -50,7 +50,7 @@ impl<P, Q> Slot<P, Q> {
     }
 }
 
-impl<P: Plug, Q: Probe> Slot<P, Q> {
+impl<P: TellsCalls, Q: TellsReadings> Slot<P, Q> {
     /// A live registration for which no call waits.
     pub fn new(name: Text, kinds: Kinds, member: MemberOf<P, Q>, waiting: VecDeque<Call>) -> Self
         requires { waiting.items ≡ [] }

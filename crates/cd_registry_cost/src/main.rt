@@ -5,7 +5,7 @@
 
 ghost use Rattle.std.specs.Prelude.{◌≡◌};
 
-use cd_registry::{Answer, Call, Kinds, MemberOf, Plug, Probe, Registry};
+use cd_registry::{Answer, Call, Kinds, MemberOf, Plug, Probe, Registry, TellsCalls};
 use cd_value::{Memory, Text};
 use std::alloc::Global;
 use std::marker::Send;
@@ -17,11 +17,13 @@ use std::{env, io};
 #[derive(Drop)]
 struct Idle;
 
-impl Plug for Idle {
+impl TellsCalls for Idle {
     ghost use Rattle.std.specs.Prelude.{None};
 
     ghost plug_tells = { λ idle. record { mark = 0; calls = None } };
+}
 
+impl Plug for Idle {
     fn enter(&mut self, _call: &Call) -> Answer {
         Answer::Done
     }

@@ -1,10 +1,8 @@
 //! Runs over memory with a configuration file `c` and the types file `types.db`, worked by hand.
-ghost use Rattle.std.specs.Prelude.{IfOk, length, ◌≤◌};
-
-use cd_io::{LinkPlan, MemFile, MemLink, MemWorld};
-use cd_registry::{Kinds, Telling};
-use cd_serve::{RanOf, ShelvedOf, ShelvedProbeOf, run_of, status, text_of};
-use cd_value::{Memory, Text};
+use crate::runs::{Ran, run_on, shelf_of};
+use cd_io::LinkPlan;
+use cd_registry::{Answer, Kinds};
+use cd_serve::{status, text_of};
 use std::alloc::Global;
 use std::test::Fail;
 
@@ -23,60 +21,40 @@ const SAMPLE: &str =
 const CANONICAL: &str =
     "Hostname \"web1\"\nFQDNLookup true\nTypesDB \"types.db\"\nInterval 10\nLoadPlugin \"syslog\"\nLoadPlugin \"load\"\nLoadPlugin \"csv\"\nLoadPlugin \"unixsock\"\nLoadPlugin \"threshold\"\n<Plugin \"csv\">\n  DataDir \"/var/lib/collectd/csv\"\n</Plugin>\n<Plugin \"unixsock\">\n  SocketFile \"/var/run/collectd-unixsock\"\n  SocketPerms \"0660\"\n</Plugin>\n";
 
+/// A configuration with filter chains.
+const CHAINS: &str =
+    "# chains\n<chain PostCache>\n\t<Rule ignore>\n\t\t<Match regex>\n\t\t\tPlugin \"^mysql$\"\n\t\t\tInvert   off\n\t\t</Match>\n\t\tTarget   stop\n\t</Rule>\n<Target write>\nPlugin w\nplugin csv\n</Target>\n</Chain>\nPostCacheChain PostCache\n";
+
+/// Its canonical text.
+const CANONICAL_CHAINS: &str =
+    "<chain \"PostCache\">\n  <Rule \"ignore\">\n    <Match \"regex\">\n      Plugin \"^mysql$\"\n      Invert false\n    </Match>\n    Target \"stop\"\n  </Rule>\n  <Target \"write\">\n    Plugin \"w\"\n    plugin \"csv\"\n  </Target>\n</chain>\nPostCacheChain \"PostCache\"\n";
+
 /// What is written at wrong words.
 const USAGE: &str = "collectd: usage: collectd [-f] [-C file] [-t, -T, --lines or --load N]\n";
 
-/// A run by words that are cut at blanks, over the files `c` and `types.db`, where they have a text, with the writer
-/// `w`; and what it said.
-pub(crate) fn ran(
+/// A run by words that are cut at blanks, over the files `c` and `types.db`, with the writer `w`; and what it said.
+fn ran(
     alloc: Global,
     line: &str,
     configuration: &str,
     types: &str,
     input: &str,
-) -> Result<(RanOf<Telling, ()>, Vec<u8>), Fail> {
-    let plugs = shelf(alloc)?;
-    let mut words = Vec::new(alloc);
-    for word in line.split_whitespace() {
-        words.push(String::from_str(alloc, word)?)?;
-    }
-    let mut world = MemWorld::new(alloc, (2_000_000_000 << 30, 1 << 30), (5, 3));
-    for (path, text) in [("c", configuration), ("types.db", types)] {
-        if !text.is_empty() {
-            world.add_file(MemFile::of(alloc, path, text.as_bytes())?)?;
-        }
-    }
-    let probes: Vec<ShelvedProbeOf<()>> = Vec::new(alloc);
+) -> Result<(Ran, Vec<u8>), Fail> {
+    let files = [("c", configuration), ("types.db", types)];
+    let shelf = shelf_of(alloc, &[("w", Kinds::WRITE, Answer::Done)])?;
     let bytes = input.as_bytes().to_vec(alloc)?;
-    let mut link = MemLink::new(alloc, bytes, LinkPlan::new(alloc));
-    let ran = run_of(
+    run_on(
         alloc,
-        words.as_slice(),
-        &mut world,
-        &mut link,
-        plugs,
-        probes,
-    );
-    let output = link.output().ok_or("the output isn't told")?;
-    Ok((ran, output.to_vec(alloc)?))
-}
-
-/// A shelf with the writer `w`.
-fn shelf(alloc: Global) -> Result<Vec<ShelvedOf<Telling>>, Memory>
-    ensures few { IfOk result (λ plugs. length plugs.items ≤ 1) }
-{
-    let plug = ShelvedOf {
-        name: Text::of(alloc, "w")?,
-        kinds: Kinds::WRITE,
-        object: Telling::new(alloc, 7, Vec::new(alloc)),
-    };
-    let mut plugs = Vec::new(alloc);
-    plugs.push(plug)?;
-    Ok(plugs)
+        shelf,
+        line,
+        files.as_slice(),
+        bytes,
+        LinkPlan::new(alloc),
+    )
 }
 
 /// How many calls the plug-in that came back has got.
-fn calls_of(ran: &RanOf<Telling, ()>) -> Option<usize> {
+fn calls_of(ran: &Ran) -> Option<usize> {
     let plug = ran.plugs.first()?;
     Some(plug.object.calls()?.len())
 }
@@ -129,6 +107,7 @@ fn configurations_are_tested(rt: HostRuntime) -> Result<(), Fail> {
     let alloc = rt.alloc();
     for (configuration, types, number, message, said) in [
         (SAMPLE, TYPES, 0, "", CANONICAL),
+        (CHAINS, "", 0, "", CANONICAL_CHAINS),
         (
             "Foo 1\n",
             "",

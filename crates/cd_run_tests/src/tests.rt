@@ -1,100 +1,35 @@
-//! Runs over memory with one plug-in, whose answers and lines are worked by hand.
-ghost use Rattle.std.specs.Prelude.{IfOk, length, ◌≤◌};
-
-use cd_history::Given;
+//! Runs over memory with one plug-in or none, whose answers and lines are worked by hand.
+use crate::runs::{Ran, Shelf, gave, run_on, shelf_of, told};
 use cd_io::{LinkPlan, MemLink, MemWorld};
-use cd_registry::{Answer, Call, Kinds, Plug, Probe, Reading, Telling};
-use cd_serve::{
-    End, INPUT_LIMIT, RanOf, Shelved, ShelvedOf, ShelvedProbe, ShelvedProbeOf, run, run_of, status,
-    text_of,
-};
-use cd_value::{Memory, Text, Value};
+use cd_plugins::Telling;
+use cd_registry::{Answer, Call, Kinds, Plug, Probe, Reading, TellsReadings};
+use cd_serve::{End, INPUT_LIMIT, Shelved, ShelvedProbe, check_shelves, run, status, text_of};
+use cd_value::{Memory, SECOND, Text, Value};
 use std::alloc::Global;
 use std::marker::Send;
 use std::test::Fail;
 
-/// A second, in units of 2^-30 s.
-const SECOND: u64 = 1 << 30;
-
-/// The program's words.
-fn words(alloc: Global, word: &str) -> Result<Vec<String>, Memory> {
-    let mut words = Vec::new(alloc);
-    words.push(String::from_str(alloc, "collectd")?)?;
-    words.push(String::from_str(alloc, word)?)?;
-    Ok(words)
-}
-
 /// A shelf with a writer of that name.
-fn shelf(alloc: Global, name: &str) -> Result<Vec<ShelvedOf<Telling>>, Memory>
-    ensures few { IfOk result (λ plugs. length plugs.items ≤ 1) }
-{
-    let plug = ShelvedOf {
-        name: Text::of(alloc, name)?,
-        kinds: Kinds::WRITE,
-        object: Telling::new(alloc, 7, Vec::new(alloc)),
-    };
-    let mut plugs = Vec::new(alloc);
-    plugs.push(plug)?;
-    Ok(plugs)
+fn shelf(alloc: Global, name: &str) -> Result<Shelf, Memory> {
+    shelf_of(alloc, &[(name, Kinds::WRITE, Answer::Done)])
 }
 
 /// A run over these bytes with the writer `w`, and what it wrote.
-fn ran(
-    alloc: Global,
-    word: &str,
-    bytes: &[u8],
-    plan: LinkPlan,
-) -> Result<(RanOf<Telling, ()>, Vec<u8>), Fail> {
-    let plugs = shelf(alloc, "w")?;
-    ran_with(alloc, plugs, word, bytes, plan)
-}
-
-/// A run over these bytes with these plug-ins, and what it wrote.
-fn ran_with(
-    alloc: Global,
-    plugs: Vec<ShelvedOf<Telling>>,
-    word: &str,
-    bytes: &[u8],
-    plan: LinkPlan,
-) -> Result<(RanOf<Telling, ()>, Vec<u8>), Fail>
-    requires { length plugs.items ≤ 1 }
-{
-    let words = words(alloc, word)?;
-    let probes: Vec<ShelvedProbeOf<()>> = Vec::new(alloc);
-    let mut world = MemWorld::new(alloc, (2_000_000_000 * SECOND, SECOND), (5, 3));
-    let mut input = MemLink::new(alloc, bytes.to_vec(alloc)?, plan);
-    let ran = run_of(
+fn ran(alloc: Global, word: &str, bytes: &[u8], plan: LinkPlan) -> Result<(Ran, Vec<u8>), Fail> {
+    let shelf = shelf(alloc, "w")?;
+    let words = format!(in alloc; "collectd {word}")?;
+    run_on(
         alloc,
-        words.as_slice(),
-        &mut world,
-        &mut input,
-        plugs,
-        probes,
-    );
-    let output = input.output().ok_or("the output isn't told")?;
-    Ok((ran, output.to_vec(alloc)?))
-}
-
-/// Whether the moments, words and answers that were given are these, in order; each is told as a number.
-fn gave(ran: &RanOf<Telling, ()>, wanted: &[(&str, u64)]) -> bool {
-    let given = ran.given.as_slice();
-    given.len() == wanted.len()
-        && given.iter().zip(wanted).all(|(one, want)| match one {
-            Given::Now(now) => want.0 == "now" && *now == want.1,
-            Given::Word(word) => want.0 == "word" && *word == want.1,
-            Given::Answered(answer) => want.0 == "done" && *answer == Answer::Done,
-            Given::Read(_) => false,
-        })
-}
-
-/// How many calls the plug-in that came back has got.
-fn calls_of(ran: &RanOf<Telling, ()>) -> Option<usize> {
-    let plug = ran.plugs.first()?;
-    Some(plug.object.calls()?.len())
+        shelf,
+        words.as_str(),
+        &[],
+        bytes.to_vec(alloc)?,
+        plan,
+    )
 }
 
 /// The time, the interval and the first value of the first write that came back.
-fn first_write(ran: &RanOf<Telling, ()>) -> Option<(u64, u64, Value)> {
+fn first_write(ran: &Ran) -> Option<(u64, u64, Value)> {
     let plug = ran.plugs.first()?;
     let entered = plug.object.calls()?.first()?;
     match &entered.call {
@@ -110,15 +45,15 @@ fn one_line_reaches_the_plug_in(rt: HostRuntime) -> Result<(), Fail> {
     let (ran, output) = ran(alloc, "--lines", line.as_slice(), LinkPlan::new(alloc))?;
     assert!(rt; ran.end == End::Done);
     assert_eq!(rt; output.as_slice(), b"0 Success\n".as_slice());
-    assert_eq!(rt; calls_of(&ran), Some(1));
+    assert_eq!(rt; told(alloc, &ran)?.as_str(), "w: write h/p/derive 1000\n");
     assert_eq!(rt;
         first_write(&ran),
         Some((1000 * SECOND, 10 * SECOND, Value::Derive(5)))
     );
     let given = [
-        ("now", 2_000_000_000 * SECOND),
+        ("now", 2_000_000_000),
         ("word", 5),
-        ("now", 2_000_000_001 * SECOND),
+        ("now", 2_000_000_001),
         ("done", 0),
     ];
     assert!(rt; gave(&ran, given.as_slice()));
@@ -177,7 +112,7 @@ fn lines_are_answered(rt: HostRuntime) -> Result<(), Fail> {
 }
 
 /// The times, in seconds, and the values of the writes that came back.
-fn writes(ran: &RanOf<Telling, ()>, wanted: &[(u64, i64)]) -> bool {
+fn writes(ran: &Ran, wanted: &[(u64, i64)]) -> bool {
     let Some(plug) = ran.plugs.first() else {
         return false;
     };
@@ -300,7 +235,7 @@ fn words_and_ends(rt: HostRuntime) -> Result<(), Fail> {
     let (other, output) = ran(alloc, "-t", b"LISTVAL\n".as_slice(), LinkPlan::new(alloc))?;
     assert!(rt; other.end == End::Usage);
     assert_eq!(rt; output.len(), 0);
-    assert_eq!(rt; calls_of(&other), Some(0));
+    assert_eq!(rt; told(alloc, &other)?.as_str(), "");
     for (end, number, text) in [
         (End::Done, 0, ""),
         (
@@ -321,26 +256,19 @@ fn words_and_ends(rt: HostRuntime) -> Result<(), Fail> {
 #[test]
 fn nobody_writes(rt: HostRuntime) -> Result<(), Fail> {
     let alloc = rt.alloc();
-    let lines = b"PUTVAL h/p/derive interval=10 1000:5\nLISTVAL\n";
-    let written = b"0 Success\n1 Value found\n1000 h/p/derive\n";
-    let given = [
-        ("now", 2_000_000_000 * SECOND),
-        ("word", 5),
-        ("now", 2_000_000_001 * SECOND),
-        ("now", 2_000_000_002 * SECOND),
-    ];
-    let reserved = shelf(alloc, "threshold")?;
+    let lines = b"PUTVAL h/p/derive interval=10 1000:5\nLISTVAL\n".to_vec(alloc)?;
     let plan = LinkPlan::new(alloc);
-    let (refused, output) = ran_with(alloc, reserved, "--lines", lines.as_slice(), plan)?;
-    assert!(rt; refused.end == End::Done);
-    assert_eq!(rt; output.as_slice(), written.as_slice());
-    assert_eq!(rt; calls_of(&refused), Some(0));
-    assert!(rt; gave(&refused, given.as_slice()));
-    let plan = LinkPlan::new(alloc);
-    let (empty, output) = ran_with(alloc, Vec::new(alloc), "--lines", lines.as_slice(), plan)?;
+    let (empty, output) = run_on(alloc, Vec::new(alloc), "collectd --lines", &[], lines, plan)?;
     assert!(rt; empty.end == End::Done);
+    let written = b"0 Success\n1 Value found\n1000 h/p/derive\n";
     assert_eq!(rt; output.as_slice(), written.as_slice());
     assert_eq!(rt; empty.plugs.len(), 0);
+    let given = [
+        ("now", 2_000_000_000),
+        ("word", 5),
+        ("now", 2_000_000_001),
+        ("now", 2_000_000_002),
+    ];
     assert!(rt; gave(&empty, given.as_slice()));
     Ok(())
 }
@@ -349,11 +277,13 @@ fn nobody_writes(rt: HostRuntime) -> Result<(), Fail> {
 #[derive(Drop)]
 struct Silent;
 
-impl Probe for Silent {
+impl TellsReadings for Silent {
     ghost use Rattle.std.specs.Prelude.{None};
 
     ghost probe_tells = { λ probe. record { mark = 0; faults = 0; readings = None } };
+}
 
+impl Probe for Silent {
     fn read(&mut self, _now: u64) -> Reading {
         Reading::Memory
     }
@@ -362,7 +292,10 @@ impl Probe for Silent {
 #[test]
 fn boxed_objects_come_back(rt: HostRuntime) -> Result<(), Fail> {
     let alloc = rt.alloc();
-    let words = words(alloc, "--lines")?;
+    let mut words = Vec::new(alloc);
+    for word in ["collectd", "--lines"] {
+        words.push(String::from_str(alloc, word)?)?;
+    }
     let object: Box<dyn Plug + Send> = Box::new(alloc, Telling::new(alloc, 7, Vec::new(alloc)))?;
     let mut plugs = Vec::new(alloc);
     plugs.push(Shelved {
@@ -376,12 +309,12 @@ fn boxed_objects_come_back(rt: HostRuntime) -> Result<(), Fail> {
         name: Text::of(alloc, "r")?,
         object: reader,
     })?;
+    if check_shelves(plugs.as_slice(), probes.as_slice()).is_err() {
+        return Err(Fail::from("the shelves can't be loaded"));
+    }
     let mut world = MemWorld::new(alloc, (0, 1), (0, 1));
-    let mut input = MemLink::new(
-        alloc,
-        b"PUTVAL h/p/derive 1:5\n".to_vec(alloc)?,
-        LinkPlan::new(alloc),
-    );
+    let bytes = b"PUTVAL h/p/derive 1:5\n".to_vec(alloc)?;
+    let mut input = MemLink::new(alloc, bytes, LinkPlan::new(alloc));
     let ran = run(
         alloc,
         words.as_slice(),

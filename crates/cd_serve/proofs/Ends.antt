@@ -1,173 +1,41 @@
--- How a run begins and ends.
-use Rattle.cd_cache.specs.Cache.{CacheMap, empty}
-use Rattle.cd_daemon.specs.Answers.{close_answer, register_answer}
-use Rattle.cd_daemon.specs.Calls.{calls_to}
+-- How a run ends: the daemon stopped and worked until it was idle, and all objects are back.
+use Rattle.cd_daemon.proofs.Legality.{handled_of_kept}
+use Rattle.cd_daemon.specs.Answers.{is_idle, ready}
 use Rattle.cd_daemon.specs.Legal.{IsLegal}
 use Rattle.cd_daemon.specs.declared.Opening.{Opening}
 use Rattle.cd_history.proofs.Order.{front-more, front-refl, front-trans}
-use Rattle.cd_history.specs.History.{History, handles, kept, ◌▸◌}
-use Rattle.cd_history.specs.Leases.{answered}
+use Rattle.cd_history.specs.History.{Event, History, handles, kept}
+use Rattle.cd_history.specs.Leases.{answered, answered_as}
 use Rattle.cd_history.specs.Order.{IsFrontOf}
-use Rattle.cd_history.specs.Registrations.{Registration, closed_by, is_text, live, registrations}
+use Rattle.cd_history.specs.Registrations.{Registration, is_closed, is_text, live, registrations}
 use Rattle.cd_history.specs.declared.entry.Entry.TheVariants as entry
-use Rattle.cd_history.specs.declared.entry.Joining.TheVariants as joining
-use Rattle.cd_history.specs.declared.entry.RegisterFault.TheVariants as refused
-use Rattle.cd_history.specs.declared.entry.RegisterFault.{RegisterFault}
 use Rattle.cd_history.specs.declared.entry.Why.TheVariants as why
-use Rattle.cd_history.specs.declared.given.Given.{Given}
-use Rattle.cd_registry.specs.Faults.{is_reserved}
-use Rattle.cd_serve.proofs.Calling.{same_number}
-use Rattle.cd_serve.proofs.Shelves.{bytes_same, returned-same}
-use Rattle.cd_serve.proofs.Steps.{all_handled, live-is, works_on}
-use Rattle.cd_serve.specs.Promises.{IsRun}
-use Rattle.cd_serve.specs.Shelf.{loaded_of}
-use Rattle.cd_serve.specs.Working.Standing.{AreOf, RunsOn, Standing, Writes, registration_of}
+use Rattle.cd_registry.specs.Told.{told_after, told_after_all}
+use Rattle.cd_registry.specs.declared.calls.AnsweredCall.{AnsweredCall}
+use Rattle.cd_registry.specs.declared.kinds.Kinds.{Kinds}
+use Rattle.cd_registry.specs.declared.plug.PlugTells.{PlugTells}
+use Rattle.cd_serve.proofs.Gifts.{gave_all_first}
+use Rattle.cd_serve.proofs.Left.{left-trans, lines_left, works_left}
+use Rattle.cd_serve.proofs.Registering.{all_live, none_closed, opens_all}
+use Rattle.cd_serve.specs.Promises.{HasRun, IsRun}
+use Rattle.cd_serve.specs.Shelf.{Place, place_of, places}
+use Rattle.cd_serve.specs.Tells.{Pairs}
+use Rattle.cd_serve.specs.Working.Ended.{HasStopped, IsOver}
+use Rattle.cd_serve.specs.Working.Loading.{AllAreBack, PlaceSeen, all_registered, numbered, place_with, standing}
+use Rattle.cd_serve.specs.Working.Progress.{Seen}
+use Rattle.cd_serve.specs.Working.Standing.{IsLeftAlone}
 use Rattle.cd_sock.specs.Lines.{Cut}
 use Rattle.cd_transcript.proofs.Determined.{one_history}
-use Rattle.cd_transcript.proofs.Events.{handed_out-of_lines}
-use Rattle.cd_transcript.proofs.Fronts.{handed_out_front}
-use Rattle.cd_transcript.specs.LineRuns.{IsLineRun, OnShelf, Opens, ServesLines, all_handed_out, none, nothing, plug_in, registers, returned}
-use Rattle.cd_transcript.specs.Transcripts.{line_says, of_lines}
-use Rattle.std.proofs.Common.{Bool, Err, IfSome, List, Ok, Some, [], ap, false, inl, inr, length, refl, subst, sym, true, ℕ, ◌∙◌, ◌∷◌, ◌≡◌}
-use Rattle.std.proofs.lemmas.List.{append-nil}
-use Rattle.std.specs.List.{find}
-use Rattle.std.specs.Option.{option_map}
-use Rattle.std.specs.declared.result.Result.{Result}
+use Rattle.cd_transcript.proofs.Events.{works-of_lines}
+use Rattle.cd_transcript.proofs.Fronts.{handed_out_front, works_front}
+use Rattle.cd_transcript.specs.LineRuns.{IsLineRun, Loaded, OnShelf, Opens, all_handed_out, returned}
+use Rattle.cd_transcript.specs.Transcripts.{IsTranscript, line_says, of_lines}
+use Rattle.std.proofs.Common.{List, None, Option, Some, [], ap, arith, is_some, length, map, nat_le, not, refl, subst, sym, true, ℕ, ◌∙◌, ◌∷◌, ◌≡◌, ◌≤◌}
+use Rattle.std.proofs.lemmas.Bool.{and_parts}
+use Rattle.std.proofs.lemmas.Option.{same_Some}
+use Rattle.std.specs.List.{filter, flat_map}
 
--- ---- the beginning
-
--- the history in which each plug-in of a shelf was registered after P
-abbrev pub registered : List OnShelf → History → History
-registered [] P = P
-registered (plug ∷ plugs) P = registered plugs (P ▸ registers P plug)
-
-pub opens_registered : (shelf : List OnShelf) (P : History) → Opens shelf P [] (registered shelf P)
-opens_registered [] P = none
-opens_registered (plug ∷ plugs) P = plug_in (opens_registered plugs (P ▸ registers P plug))
-
-begun : (K : Opening) → Standing K false [] [] (empty K.globals.timeout) []
-begun K = record {
-  legal = tt;
-  is_so = refl;
-  registers = refl;
-  unclosed = λ r. refl;
-  unretired = λ r. refl;
-  home = λ r. refl;
-  earlier = [];
-  queued = refl;
-  counted = refl;
-  taken = λ r. refl;
-  caches = refl;
-}
-
-pub run_begins_empty : (K : Opening) → RunsOn K [] [] false [] (empty K.globals.timeout) (registered [] [])
-run_begins_empty K = record { regs = []; standing = begun K; of_shelf = refl; writes = refl; back = refl }
-
-module _ (K : Opening) (plug : OnShelf) where
-  -- one that isn't loaded isn't registered
-  pub run_begins_left_out : RunsOn K (plug ∷ []) (plug ∷ []) false [] (empty K.globals.timeout) []
-  run_begins_left_out = record { regs = []; standing = begun K; of_shelf = inl refl; writes = refl; back = refl }
-
-  abbrev with_reply : Result ℕ RegisterFault → History
-  with_reply reply = [] ▸ entry.Register 0 plug.name (joining.Plug plug.kinds [] plug.tells) reply
-
-  -- a reserved name is refused
-  pub run_begins_refused : is_reserved plug.name ≡ true → RunsOn K (plug ∷ []) (plug ∷ []) false [] (empty K.globals.timeout) (registered (plug ∷ []) [])
-  run_begins_refused taken =
-      subst (λ (reply : Result ℕ RegisterFault). RunsOn K (plug ∷ []) (plug ∷ []) false [] (empty K.globals.timeout) (with_reply reply)) (sym is) (record {
-        regs = [];
-        standing = record {
-          legal = (tt, sym is);
-          is_so = refl;
-          registers = refl;
-          unclosed = λ r. refl;
-          unretired = λ r. refl;
-          home = λ r. refl;
-          earlier = [];
-          queued = refl;
-          counted = refl;
-          taken = λ r. refl;
-          caches = refl;
-        };
-        of_shelf = inl refl;
-        writes = refl;
-        back = refl;
-      })
-    where
-      is : register_answer [] plug.name ≡ Err refused.Reserved
-      is = rw taken refl
-
-  pub run_begins : (writer : Bool) → is_reserved plug.name ≡ false → Writes writer (registration_of plug ∷ [])
-      → RunsOn K (plug ∷ []) (plug ∷ []) writer [] (empty K.globals.timeout) (registered (plug ∷ []) [])
-  run_begins writer free writes =
-      subst (λ (reply : Result ℕ RegisterFault). RunsOn K (plug ∷ []) (plug ∷ []) writer [] (empty K.globals.timeout) (with_reply reply)) (sym is) (record {
-        regs = registration_of plug ∷ [];
-        standing = record {
-          legal = (tt, sym is);
-          is_so = refl;
-          registers = refl;
-          unclosed = λ r. refl;
-          unretired = λ r. refl;
-          home = λ r. refl;
-          earlier = [];
-          queued = refl;
-          counted = refl;
-          taken = λ r. refl;
-          caches = refl;
-        };
-        of_shelf = inr refl;
-        writes = writes;
-        back = told_alike;
-      })
-    where
-      is : register_answer [] plug.name ≡ Ok 0
-      is = rw free refl
-
-      told_alike : plug ∷ [] ≡ returned (with_reply (Ok 0)) (plug ∷ [])
-      told_alike = rw (bytes_same plug.name) refl
-
--- ---- the end
-
-stopped_standing : {K : Opening} {regs : List Registration} {cache : CacheMap} {P : History} → Standing K false regs [] cache P → Standing K true regs [] cache (P ▸ entry.Stop 0 why.ControlEnd)
-stopped_standing {K = K} {P = P} s = record {
-  legal = (s.legal, tt);
-  is_so = refl;
-  registers = s.registers;
-  unclosed = s.unclosed;
-  unretired = s.unretired;
-  home = s.home;
-  earlier = s.earlier;
-  queued = s.queued;
-  counted = s.counted;
-  taken = λ r. s.taken r ∙ ap length (sym (append-nil (calls_to K r P)));
-  caches = s.caches;
-}
-
-module _ {K : Opening} {cache : CacheMap} (g : Registration) (Q : History) (s : Standing K true (g ∷ []) [] cache Q) where
-  abbrev after_close : History
-  after_close = Q ▸ entry.Close 0 g.name (close_answer Q g.name)
-
-  closes-one : close_answer Q g.name ≡ Some g.number
-  closes-one =
-      ap (λ (gs : List Registration). option_map (λ (x : Registration). x.number) (find (λ x. is_text x.name g.name) gs)) (live-is s)
-      ∙ rw (bytes_same g.name) refl
-
-  closed_by_us : IfSome (closed_by g.number after_close) (λ b. b ≡ 0)
-  closed_by_us = rw (closes-one, same_number g.number) refl
-
-  handed_out_legal : IsLegal K (all_handed_out K (g ∷ []) Q)
-  handed_out_legal = ((s.legal, refl), (refl, closed_by_us))
-
--- the registrations of a shelf of at most one plug-in are closed and handed out as a one-thread daemon does it
-few_handed_out : {K : Opening} {cache : CacheMap} (opened : List OnShelf) (regs : List Registration) (Q : History) → AreOf opened regs → Standing K true regs [] cache Q → IsLegal K (all_handed_out K regs Q)
-few_handed_out {K = K} {cache = cache} [] regs Q of_shelf s = let P : List Registration → Type 0 = λ gs. IsLegal K (all_handed_out K gs Q) in subst P (sym of_shelf) s.legal
-few_handed_out {K = K} {cache = cache} (plug ∷ []) regs Q of_shelf s =
-    let P : List Registration → Type 0 = λ gs. IsLegal K (all_handed_out K gs Q) in
-    elim of_shelf [
-      | inl is ↦ subst P (sym is) s.legal
-      | inr is ↦ subst P (sym is) (handed_out_legal (registration_of plug) Q (let S : List Registration → Type 0 = λ gs. Standing K true gs [] cache Q in subst S is s))
-    ]
-few_handed_out (plug ∷ (next ∷ plugs)) regs Q of_shelf s = absurd of_shelf
+-- ---- what was handed out changes nothing else
 
 handed_out-handles : (K : Opening) (gs : List Registration) (P : History) → handles (all_handed_out K gs P) ≡ handles P
 handed_out-handles K [] P = refl
@@ -185,46 +53,155 @@ handed_out-answered : (K : Opening) (gs : List Registration) (P : History) (r : 
 handed_out-answered K [] P r = refl
 handed_out-answered K (g ∷ gs) P r = handed_out-answered K gs _ r
 
--- the history of a run that has served these lines
-abbrev pub after_stop : History → History
-after_stop P = P ▸ entry.Stop 0 why.ControlEnd
+handed_out-of_lines : (K : Opening) (gs : List Registration) (P : History) → of_lines (all_handed_out K gs P) ≡ of_lines P
+handed_out-of_lines K [] P = refl
+handed_out-of_lines K (g ∷ gs) P = handed_out-of_lines K gs _
 
-abbrev pub at_end : Opening → History → History
-at_end K P = all_handed_out K (live (after_stop P)) (after_stop P)
+-- ---- what plug-ins tell
 
-pub run_ends : {K : Opening} (loads : List ℕ → Bool) {shelf back : List OnShelf} {writer : Bool} {cache : CacheMap} {lines : List Cut} {given : List Given} (O P : History)
-    → RunsOn K shelf back writer [] cache P → Opens (loaded_of loads shelf) [] [] O → ServesLines K (line_says K) lines O given P
-    → IsRun K loads shelf back lines given (at_end K P)
-run_ends {K = K} loads {shelf = shelf} {cache = cache} {lines = lines} {given = given} O P s opens serves = record {
-  legal = few_handed_out shelf (live (after_stop P)) (after_stop P) (let A : List Registration → Type 0 = AreOf shelf in subst A (sym regs) s.of_shelf)
-      (let S : List Registration → Type 0 = λ gs. Standing K true gs [] cache (after_stop P) in subst S (sym regs) (stopped_standing s.standing));
-  made = is_made;
-  only = λ other r. one_history K (line_says K) r is_made;
-  handled = handed_out-handles K (live (after_stop P)) (after_stop P) ∙ all_handled s.standing ∙ ap length (sym (handed_out-kept K (live (after_stop P)) (after_stop P)));
-  told = s.back ∙ sym (returned-same P (at_end K P) (handed_out-registrations K (live (after_stop P)) (after_stop P))
-      (handed_out-answered K (live (after_stop P)) (after_stop P)) shelf);
-}
-  where
-    is_made : IsLineRun K (line_says K) (loaded_of loads shelf) lines given (at_end K P)
+flat_map-same : {X A : Type 0} (f h : X → List A) → ((x : X) → f x ≡ h x) → (xs : List X) → flat_map f xs ≡ flat_map h xs
+flat_map-same f h same [] = refl
+flat_map-same f h same (x ∷ xs) = rw (same x, flat_map-same f h same xs) refl
+
+map-same : {X A : Type 0} (f h : X → A) → ((x : X) → f x ≡ h x) → (xs : List X) → map f xs ≡ map h xs
+map-same f h same [] = refl
+map-same f h same (x ∷ xs) = rw (same x, map-same f h same xs) refl
+
+-- nothing was told between two histories with the same registrations and answered calls
+answered_as-same : (P Q : History) → registrations Q ≡ registrations P → ((r : ℕ) → answered r Q ≡ answered r P) → (name : List ℕ) → answered_as name Q ≡ answered_as name P
+answered_as-same P Q regs told name =
+    ap (λ (gs : List Registration). flat_map (λ g. answered g.number Q) (filter (λ g. is_text g.name name) gs)) regs
+    ∙ flat_map-same (λ (g : Registration). answered g.number Q) (λ (g : Registration). answered g.number P) (λ g. told g.number)
+    (filter (λ g. is_text g.name name) (registrations P))
+
+abbrev telling : OnShelf → List AnsweredCall → OnShelf
+telling plug calls = record plug { tells = told_after_all calls plug.tells }
+
+returned-same : (P Q : History) → registrations Q ≡ registrations P → ((r : ℕ) → answered r Q ≡ answered r P) → (shelf : List OnShelf) → returned Q shelf ≡ returned P shelf
+returned-same P Q regs told shelf = map-same _ _ (λ (plug : OnShelf). ap (telling plug) (answered_as-same P Q regs told plug.name)) shelf
+
+abbrev on : List ℕ → Kinds → PlugTells → OnShelf
+on name kinds tells = record { name = name; kinds = kinds; tells = tells }
+
+same_plug : (a b : OnShelf) → standing a ≡ standing b → a ≡ b
+same_plug a b same =
+    ap (λ (n : List ℕ). on n a.kinds a.tells) (ap (λ (p : PlaceSeen). p.name) same)
+    ∙ ap (λ (k : Kinds). on b.name k a.tells) (ap (λ (p : PlaceSeen). p.kinds) same)
+    ∙ ap (λ (t : PlugTells). on b.name b.kinds t) (same_Some a.tells b.tells (ap (λ (p : PlaceSeen). p.tells) same))
+
+-- all stand in their places, so the shelf came back
+pub shelf_is_back : (P : History) (shelf back : List OnShelf) → map standing back ≡ map (place_with P []) shelf → back ≡ returned P shelf
+shelf_is_back P [] [] is = refl
+shelf_is_back P [] (b ∷ back) is = absurd (cc)
+shelf_is_back P (plug ∷ shelf) [] is = absurd (cc)
+shelf_is_back P (plug ∷ shelf) (b ∷ back) is =
+    let first : standing b ≡ standing (telling plug (answered_as plug.name P)) = cc in
+    let rest : map standing back ≡ map (place_with P []) shelf = cc in
+    ap (λ (x : OnShelf). x ∷ back) (same_plug b (telling plug (answered_as plug.name P)) first)
+    ∙ ap (λ (xs : List OnShelf). telling plug (answered_as plug.name P) ∷ xs) (shelf_is_back P shelf back rest)
+
+told-mark : (calls : List AnsweredCall) (told : PlugTells) → (told_after_all calls told).mark ≡ told.mark
+told-mark [] told = refl
+told-mark (one ∷ calls) told = told-mark calls (told_after one.call one.answer told)
+
+abbrev marked : OnShelf → ℕ → Place
+marked plug mark = record { name = plug.name; kinds = plug.kinds; mark = mark }
+
+returned-places : (P : History) (shelf : List OnShelf) → places (returned P shelf) ≡ places shelf
+returned-places P [] = refl
+returned-places P (plug ∷ shelf) =
+    ap (λ (p : Place). p ∷ places (returned P shelf)) (ap (marked plug) (told-mark (answered_as plug.name P) plug.tells))
+    ∙ ap (λ (ps : List Place). place_of plug ∷ ps) (returned-places P shelf)
+
+-- each object is back in its place
+pub places_are_same : (P : History) (shelf back : List OnShelf) → map standing back ≡ map (place_with P []) shelf → places back ≡ places shelf
+places_are_same P shelf back is = ap places (shelf_is_back P shelf back is) ∙ returned-places P shelf
+
+-- ---- the history of a run
+
+none_is : {A : Type 0} (o : Option A) → not (is_some o) ≡ true → o ≡ None
+none_is None e = refl
+none_is (Some x) e = absurd (cc)
+
+at_most : (n m : ℕ) → nat_le n m ≡ true → n ≤ m
+at_most n m e = grind arith
+
+idle_parts : (K : Opening) (P : History) → is_idle K P ≡ true → (nat_le (length (kept P)) (handles P) ≡ true) × (not (is_some (ready K P)) ≡ true)
+idle_parts K P is = and_parts (nat_le (length (kept P)) (handles P)) (not (is_some (ready K P))) is
+
+module _ {K : Opening} {begun : Pairs} {opened : History} {seen : Seen} {lines : List Cut} {text : List ℕ} (s : HasStopped K begun opened seen lines text) where
+  abbrev served : History
+  served = s.before.served.past
+
+  abbrev pub stopped : History
+  stopped = s.worked.working.past
+
+  -- nothing waits any more
+  pub is_over : IsOver K opened seen.core stopped
+  is_over =
+      let work = works_left s.worked.working.works in
+      let after : IsLeftAlone served stopped = record { registered = work.registered; closed = work.closed; retired = work.retired } in
+      record {
+        stands = s.worked.working.runs.stands;
+        home = s.worked.working.runs.home;
+        left = left-trans (lines_left s.before.served.serves) after;
+        none_ready = none_is (ready K stopped) (idle_parts K stopped s.worked.idle).1;
+      }
+
+  all_handled : handles stopped ≡ length (kept stopped)
+  all_handled =
+      let most = handled_of_kept K stopped s.worked.working.runs.stands.legal in
+      let least : length (kept stopped) ≤ handles stopped = at_most (length (kept stopped)) (handles stopped) (idle_parts K stopped s.worked.idle).0 in
+      omega (arith, most, least)
+
+  abbrev pub at_end : History
+  at_end = all_handed_out K (live stopped) stopped
+
+  served_front : IsFrontOf served at_end
+  served_front = front-trans (front-more (entry.Stop 0 why.ControlEnd) (front-refl served)) (front-trans (works_front s.worked.working.works) (handed_out_front K (live stopped) stopped))
+
+  pub front_so_far : (P : History) → IsFrontOf P served → IsFrontOf P at_end
+  front_so_far P front = front-trans front served_front
+
+  pub end-of_lines : of_lines at_end ≡ of_lines served
+  end-of_lines = handed_out-of_lines K (live stopped) stopped ∙ works-of_lines s.worked.working.works
+
+  module _ (loads : List OnShelf → List Loaded) (shelf back : List OnShelf) (opens : opened ≡ all_registered (loads shelf) [])
+      (registered : registrations opened ≡ numbered 0 (loads shelf)) (are_back : AllAreBack K stopped shelf (loads shelf) (map standing back)) where
+    live-is : live stopped ≡ numbered 0 (loads shelf)
+    live-is = all_live stopped (registrations stopped)
+        (λ r. is_over.left.closed r ∙ ap (is_closed r) opens ∙ none_closed (loads shelf) [] r) ∙ is_over.left.registered ∙ registered
+
+    is_made : IsLineRun K (line_says K) (loads shelf) lines seen.given at_end
     is_made = record {
-      opened = O;
-      served = P;
-      stopped = after_stop P;
+      opened = opened;
+      served = served;
+      stopped = stopped;
       given_first = [];
-      given_lines = given;
-      given_last = [];
-      opens = opens;
-      serves = serves;
-      stops = works_on (stopped_standing s.standing) nothing;
+      given_lines = s.before.seen.given;
+      given_last = s.worked.working.given;
+      opens = let O : History → Type 0 = λ P. Opens (loads shelf) [] [] P in subst O (sym opens) (opens_all (loads shelf) []);
+      serves = s.before.served.serves;
+      stops = record { works = s.worked.working.works; idle = s.worked.idle };
       hands_out = refl;
-      given_is = sym (append-nil given);
+      given_is = s.worked.working.follows;
     }
 
-    regs : live (after_stop P) ≡ s.regs
-    regs = live-is (stopped_standing s.standing)
+    pub is_run : IsRun K loads shelf back lines seen.given at_end
+    is_run = record {
+      legal = let L : List Registration → Type 0 = λ gs. IsLegal K (all_handed_out K gs stopped) in subst L (sym live-is) are_back.legal;
+      made = is_made;
+      only = λ other r. one_history K (line_says K) r is_made;
+      handled = handed_out-handles K (live stopped) stopped ∙ all_handled ∙ ap length (sym (handed_out-kept K (live stopped) stopped));
+      told = shelf_is_back stopped shelf back are_back.places
+          ∙ sym (returned-same stopped at_end (handed_out-registrations K (live stopped) stopped) (handed_out-answered K (live stopped) stopped) shelf);
+    }
 
-pub at_end-of_lines : (K : Opening) (P : History) → of_lines (at_end K P) ≡ of_lines P
-at_end-of_lines K P = handed_out-of_lines K (live (after_stop P)) (after_stop P)
-
-pub at_end_front : (K : Opening) (P : History) → IsFrontOf P (at_end K P)
-at_end_front K P = front-trans (front-more _ (front-refl P)) (handed_out_front K (live (after_stop P)) (after_stop P))
+    -- the lines were served, and the daemon stopped
+    unfoldable pub has_run : HasRun K loads shelf back seen.given begun lines text
+    has_run = record {
+      history = at_end;
+      run = is_run;
+      transcript = let T : List Event → Type 0 = λ events. IsTranscript (line_says K) lines events text in subst T (sym end-of_lines) s.before.served.written;
+      gave = gave_all_first begun seen.pairs seen.given s.worked.working.gave;
+    }

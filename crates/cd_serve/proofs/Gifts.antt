@@ -2,9 +2,9 @@
 use Rattle.cd_history.specs.declared.given.Given.TheVariants.{Answered, Now, Read, Word}
 use Rattle.cd_history.specs.declared.given.Given.{Given}
 use Rattle.cd_io.specs.Told.{clock_after, dice_after}
-use Rattle.cd_registry.specs.declared.calls.AnsweredCall.{AnsweredCall}
+use Rattle.cd_registry.specs.declared.calls.Answer.{Answer}
 use Rattle.cd_serve.specs.Tells.{Gave, GaveAll, Pairs, moments, words}
-use Rattle.cd_serve.specs.Working.Outside.{GaveAllUpTo, GaveUpTo, answers_given}
+use Rattle.cd_serve.specs.Working.Outside.{GaveAllUpTo, GaveUpTo}
 use Rattle.std.proofs.Common.{IfSome, List, Option, [], ap, map, refl, subst, sym, ℕ, ◌++◌, ◌∙◌, ◌∷◌, ◌≡◌}
 use Rattle.std.proofs.lemmas.List.{append-nil}
 use Rattle.std.specs.Option.{option_map}
@@ -49,19 +49,18 @@ gave_moment begun pairs given now g is = record {
   words = along _ _ _ _ _ (sym (append-nil (words given)) ∙ sym (words-append given (Now now ∷ []))) g.words;
 }
 
-moments-answers : (cs : List AnsweredCall) → moments (answers_given cs) ≡ []
-moments-answers [] = refl
-moments-answers (c ∷ cs) = moments-answers cs
-
-words-answers : (cs : List AnsweredCall) → words (answers_given cs) ≡ []
-words-answers [] = refl
-words-answers (c ∷ cs) = words-answers cs
-
-pub gave_answers : (begun pairs : Pairs) (given : List Given) (cs : List AnsweredCall) → GaveAllUpTo begun pairs given → GaveAllUpTo begun pairs (given ++ answers_given cs)
-gave_answers begun pairs given cs g = record {
-  moments = along _ _ _ _ _ (sym (append-nil (moments given)) ∙ ap (λ (ns : List ℕ). moments given ++ ns) (sym (moments-answers cs)) ∙ sym (moments-append given (answers_given cs))) g.moments;
-  words = along _ _ _ _ _ (sym (append-nil (words given)) ∙ ap (λ (ns : List ℕ). words given ++ ns) (sym (words-answers cs)) ∙ sym (words-append given (answers_given cs))) g.words;
+pub gave_answer : (begun pairs : Pairs) (given : List Given) (answer : Answer) → GaveAllUpTo begun pairs given → GaveAllUpTo begun pairs (given ++ Answered answer ∷ [])
+gave_answer begun pairs given answer g = record {
+  moments = along _ _ _ _ _ (sym (append-nil (moments given)) ∙ sym (moments-append given (Answered answer ∷ []))) g.moments;
+  words = along _ _ _ _ _ (sym (append-nil (words given)) ∙ sym (words-append given (Answered answer ∷ []))) g.words;
 }
+
+-- where the same was told and given
+pub gave_as : {begun pairs others : Pairs} {given more : List Given} → others ≡ pairs → more ≡ given → GaveAllUpTo begun pairs given → GaveAllUpTo begun others more
+gave_as {begun = begun} {pairs = pairs} {more = more} same is g =
+    let A : List Given → Type 0 = λ gifts. GaveAllUpTo begun pairs gifts in
+    let B : Pairs → Type 0 = λ told. GaveAllUpTo begun told more in
+    subst B (sym same) (subst A (sym is) g)
 
 pub gave_words : (begun pairs : Pairs) (last : Option (ℕ × ℕ)) (given : List Given) (rolled : List ℕ) → GaveAllUpTo begun pairs given → GaveUpTo dice_after pairs.dice rolled last
     → GaveAllUpTo begun (record { clock = pairs.clock; dice = last }) (given ++ map Word rolled)

@@ -29,9 +29,9 @@ use Rattle.cd_settings.specs.Paths.{paths_of}
 use Rattle.cd_settings.specs.Settings.{settings_of}
 use Rattle.cd_settings.specs.declared.fault.SettingsFault.{SettingsFault}
 use Rattle.cd_settings.specs.declared.settings.Settings.{Settings}
-use Rattle.cd_transcript.specs.LineRuns.{OnShelf}
+use Rattle.cd_transcript.specs.LineRuns.{Loaded, OnShelf}
 use Rattle.cd_value.specs.declared.data.DataSet.{DataSet}
-use Rattle.std.proofs.Common.{Bool, Err, List, None, Ok, Option, Result, Some, ap, arith, inl, inr, length, length-append, refl, subst, sym, ℕ, ◌++◌, ◌∙◌, ◌≡◌, ◌≤◌, ◌⊎◌}
+use Rattle.std.proofs.Common.{Err, List, None, Ok, Option, Result, Some, ap, arith, inl, inr, length, length-append, refl, subst, sym, ℕ, ◌++◌, ◌∙◌, ◌≡◌, ◌≤◌, ◌⊎◌}
 
 never_both : {A F : Type 0} (r : Result A F) (x : A) (f : F) → r ≡ Ok x → r ≡ Err f → ⊥
 never_both r x f a b = cc
@@ -175,7 +175,7 @@ heard_within heard before after w loses =
     let same : w.bytes ≡ heard ++ w.rest = subst S w.has (subst F w.had loses) in
     omega (arith, w.few, ap length same, length-append heard w.rest)
 
-lines_done : (K : Opening) (loads : List ℕ → Bool) (shelf back : List OnShelf) (given : List Given) (begun : Pairs) (before after : LinkTells) (file : Option (List ℕ))
+lines_done : (K : Opening) (loads : List OnShelf → List Loaded) (shelf back : List OnShelf) (given : List Given) (begun : Pairs) (before after : LinkTells) (file : Option (List ℕ))
     (files : Option (List FileTells)) (end : End) → PromisesLines K loads shelf back given begun before after end → (Rose before.faults after.faults → ⊥) → IsWithin before after
     → (end ≡ ends.Done) ⊎ IsFree file files end
 lines_done K loads shelf back given begun before after file files ends.Done s fine within = inl refl
@@ -269,7 +269,7 @@ module _ (words : List (List ℕ)) (files : Option (List FileTells)) where
       absurd (refused_not_accepted other.file files found fault refused (of_same other of (Ok found) so is comes))
 
 -- lines were served by a command of these words
-pub done_served : (files : Option (List FileTells)) (asked : Option Command) (of : Command) (K : Opening) (loads : List ℕ → Bool) (shelf back : List OnShelf) (given : List Given) (begun : Pairs)
+pub done_served : (files : Option (List FileTells)) (asked : Option Command) (of : Command) (K : Opening) (loads : List OnShelf → List Loaded) (shelf back : List OnShelf) (given : List Given) (begun : Pairs)
     (before after : LinkTells) (end : End) → asked ≡ Some of → of.mode ≡ Lines → PromisesLines K loads shelf back given begun before after end
     → (other : Command) → asked ≡ Some other → (Rose before.faults after.faults → ⊥) → IsTaken other.mode before after → (end ≡ ends.Done) ⊎ IsFree other.file files end
 done_served files asked of K loads shelf back given begun before after end is lines serves other so fine taken =

@@ -1,218 +1,115 @@
--- The steps of a daemon with at most one plug-in.
-use Rattle.cd_cache.specs.Cache.{CacheMap}
-use Rattle.cd_daemon.proofs.Writers.{sent_all, sent_elsewhere, sent_to_nobody}
-use Rattle.cd_daemon.specs.Answers.{accept_answer, handle_answer, is_idle, may_be_taken, query_answer, ready}
-use Rattle.cd_daemon.specs.Calls.{cache_after, calls_to, pending, sent_to}
-use Rattle.cd_daemon.specs.Handling.{Handling, handling, handling_if_any, next_handling, next_list}
-use Rattle.cd_daemon.specs.Performing.{Post}
+-- Work goes on, step by step.
+use Rattle.cd_core.specs.Stands.{Anyhow, Makes, Stands}
+use Rattle.cd_daemon.specs.Answers.{handle_answer, ready}
 use Rattle.cd_daemon.specs.declared.Opening.{Opening}
-use Rattle.cd_history.specs.History.{History, handles, kept, kept_of, ◌▸◌}
-use Rattle.cd_history.specs.Leases.{takes}
-use Rattle.cd_history.specs.Registrations.{Registration, is_closed, is_plug, is_retired, live, registrations}
+use Rattle.cd_history.specs.History.{History, handles, kept, ◌▸◌}
 use Rattle.cd_history.specs.declared.entry.Entry.TheVariants as entry
-use Rattle.cd_history.specs.declared.given.Given.TheVariants.{Now}
+use Rattle.cd_history.specs.declared.entry.Handled.{Handled}
+use Rattle.cd_history.specs.declared.given.Given.TheVariants.{Answered, Now}
 use Rattle.cd_history.specs.declared.given.Given.{Given}
-use Rattle.cd_registry.specs.declared.calls.AnsweredCall.{AnsweredCall}
-use Rattle.cd_registry.specs.declared.calls.Call.{Call}
-use Rattle.cd_serve.proofs.Calling.{called-cache, called-calls, called-closed, called-handles, called-home, called-kept, called-registrations, called-retired, called-stopped, called-takes}
-use Rattle.cd_serve.specs.Working.Standing.{Standing}
-use Rattle.cd_transcript.proofs.CallsInOrder.{IsAlone, all_called, alone_after, alone_handled, answers_of, calls_of, legal_after, next_calls, seam, works_handled}
-use Rattle.cd_transcript.specs.LineRuns.{IsAsked, Works, WorksUntilIdle}
-use Rattle.cd_types.specs.Types.{fits}
-use Rattle.cd_value.specs.declared.data.Offered.TheVariants.{Kept}
+use Rattle.cd_registry.specs.declared.calls.Answer.{Answer}
+use Rattle.cd_serve.proofs.Gifts.{gave_answer, gave_as, gave_moment}
+use Rattle.cd_serve.proofs.Keeping.{handle_quiet, runs_as, runs_called, runs_step, stands_as}
+use Rattle.cd_serve.specs.Tells.{Pairs}
+use Rattle.cd_serve.specs.Working.Outside.{Calls, GaveAllUpTo, WasCalled}
+use Rattle.cd_serve.specs.Working.Progress.{CallsAll, HandlesOne, HasCalledAll, HasWorked, IsWorking, KeepsWorking, Seen, WorksOn, with_moment}
+use Rattle.cd_serve.specs.Working.Standing.{RunsOn}
+use Rattle.cd_transcript.specs.LineRuns.{IsAsked, WorksUntilIdle, called, handled, nothing}
 use Rattle.cd_value.specs.declared.data.ValueList.{ValueList}
-use Rattle.std.proofs.Common.{Bool, IsTrue, List, None, Ok, Option, Some, [], ap, append_assoc, arith, false, length, length-append, map, nat_eq, nat_le, not, refl, subst, sym, true, ℕ, ◌&&◌, ◌++◌, ◌+◌, ◌<◌, ◌∙◌, ◌∷◌, ◌≡◌}
+use Rattle.std.proofs.Common.{Bool, Err, IfSome, IsTrue, List, None, Ok, OnOk, Option, Result, [], ap, append_assoc, arith, drop, is_some, length, length-drop, nat_le, not, refl, subst, sym, ℕ, ◌&&◌, ◌++◌, ◌∙◌, ◌∷◌, ◌≡◌, ◌≤◌}
 use Rattle.std.proofs.lemmas.List.{append-nil}
-use Rattle.std.specs.List.{filter, find, list_all}
 
--- ---- lists
+pub on_ok : {T E A B : Type 0} (r : Result T E) → (A → B) → OnOk r A → OnOk r B
+on_ok (Ok x) f a = f a
+on_ok (Err e) f a = tt
 
-all_kept : (lists : List ValueList) → kept_of lists (map (λ list. Kept) lists) ≡ lists
-all_kept [] = refl
-all_kept (list ∷ lists) = ap (λ (xs : List ValueList). list ∷ xs) (all_kept lists)
+-- work begins
+pub begin : {K : Opening} {stopped : Bool} {begun : Pairs} {P : History} {seen : Seen} → RunsOn K stopped seen.core P → GaveAllUpTo begun seen.pairs seen.given → IsWorking K stopped begun P seen.given seen
+begin {P = P} {seen = seen} runs gave = record {
+  past = P;
+  runs = runs;
+  given = [];
+  follows = sym (append-nil seen.given);
+  works = nothing;
+  gave = gave;
+}
 
--- ---- nobody is ready where no call waits
+pub keeps_working_as : (old new : Seen) → new.core ≡ old.core → new.pairs ≡ old.pairs → new.given ≡ old.given → KeepsWorking old new
+keeps_working_as old new core pairs given K stopped begun start before w = record {
+  past = w.past;
+  runs = runs_as core w.runs;
+  given = w.given;
+  follows = given ∙ w.follows;
+  works = w.works;
+  gave = gave_as pairs given w.gave;
+}
 
-none_pending : {K : Opening} {stopped : Bool} {regs : List Registration} {queue : List ValueList} {cache : CacheMap} {P : History} → Standing K stopped regs queue cache P → (r : ℕ) → pending K P r ≡ 0
-none_pending {K = K} {P = P} s r = omega (arith, s.taken r)
+pub keeps_working_then : (old mid new : Seen) → KeepsWorking old mid → KeepsWorking mid new → KeepsWorking old new
+keeps_working_then old mid new first second K stopped begun start before w = second K stopped begun start before (first K stopped begun start before w)
 
-not_ready : {K : Opening} {stopped : Bool} {regs : List Registration} {queue : List ValueList} {cache : CacheMap} {P : History} → Standing K stopped regs queue cache P → (g : Registration) → may_be_taken K P g ≡ false
-not_ready {K = K} {P = P} s g = rw (none_pending s g.number) (last (is_plug g.joining) (not (is_retired g.number P)) _)
-  where
-    last : (a b c : Bool) → (a && b && c && false) ≡ false
-    last a b c = grind arith
+-- a call was made
+pub keeps_working_called : (old new : Seen) (answer : Answer) → WasCalled answer old.core new.core → new.pairs ≡ old.pairs → new.given ≡ old.given ++ Answered answer ∷ [] → KeepsWorking old new
+keeps_working_called old new answer was pairs given K stopped begun start before w =
+    let c : Calls K w.past answer new.core = was K w.past w.runs.stands in
+    record {
+      past = w.past ▸ entry.Take 0 c.reg c.call ▸ entry.Done 0 c.reg answer;
+      runs = runs_called answer c.reg c.call w.runs c.stands;
+      given = w.given ++ Answered answer ∷ [];
+      follows = given ∙ ap (λ (gifts : List Given). gifts ++ Answered answer ∷ []) w.follows ∙ append_assoc before w.given (Answered answer ∷ []);
+      works = called w.works c.was_ready c.its_call;
+      gave = gave_as pairs given (gave_answer begun old.pairs old.given answer w.gave);
+    }
 
-pub none_ready : {K : Opening} {stopped : Bool} {regs : List Registration} {queue : List ValueList} {cache : CacheMap} {P : History} → Standing K stopped regs queue cache P → ready K P ≡ None
-none_ready {K = K} {P = P} s = found (registrations P)
-  where
-    found : (gs : List Registration) → elim (find (may_be_taken K P) gs) as (λ o. Option ℕ) [ None ↦ None | Some g ↦ Some g.number ] ≡ None
-    found [] = refl
-    found (g ∷ gs) = rw (not_ready s g) (found gs)
+-- .. and none waits
+pub called_all : (old mid new : Seen) → KeepsWorking old mid → new.core ≡ mid.core → new.pairs ≡ mid.pairs → new.given ≡ mid.given
+    → ((K : Opening) (H : History) → Stands K mid.core H → ready K H ≡ None) → CallsAll old new
+unfolding keeps_working_as
+called_all old mid new works core pairs given none K stopped begun start before w =
+    let m : IsWorking K stopped begun start before mid = works K stopped begun start before w in
+    record {
+      working = keeps_working_as mid new core pairs given K stopped begun start before m;
+      none = none K m.past m.runs.stands;
+    }
 
-idle : {K : Opening} {stopped : Bool} {regs : List Registration} {cache : CacheMap} {P : History} → Standing K stopped regs [] cache P → IsTrue (is_idle K P)
-idle {K = K} {P = P} s = rw (none_ready s, s.queued, append-nil s.earlier, s.counted) (within (length s.earlier))
-  where
-    within : (n : ℕ) → IsTrue (nat_le n n && true)
-    within n = grind arith
-
-pub works_on : {K : Opening} {stopped : Bool} {regs : List Registration} {cache : CacheMap} {P Q : History} {given : List Given} → Standing K stopped regs [] cache Q → Works K IsAsked P given Q → WorksUntilIdle K IsAsked P given Q
-works_on s w = record { works = w; idle = idle s }
-
-pub all_handled : {K : Opening} {stopped : Bool} {regs : List Registration} {cache : CacheMap} {P : History} → Standing K stopped regs [] cache P → handles P ≡ length (kept P)
-all_handled s = s.counted ∙ ap length (sym (s.queued ∙ append-nil s.earlier))
-
--- ---- an entry that makes no call
-
-quiet : (xs : List Call) → xs ++ [] ≡ xs
-quiet xs = append-nil xs
-
--- ---- lists are accepted
-
-pub accepted_ok : {K : Opening} {regs : List Registration} {cache : CacheMap} {P : History} (lists : List ValueList) (words : List ℕ) → Standing K false regs [] cache P → accept_answer K P lists words ≡ Ok (map (λ list. Kept) lists)
-accepted_ok lists words s = rw s.is_so refl
-
-pub accepts : {K : Opening} {regs : List Registration} {cache : CacheMap} {P : History} (lists : List ValueList) (words : List ℕ) (now : ℕ)
-    → Standing K false regs [] cache P → IsTrue (list_all (fits K.types) lists) → length words ≡ length lists
-    → Standing K false regs lists cache (P ▸ entry.Accept 0 lists words now (accept_answer K P lists words))
-accepts {K = K} {regs = regs} {cache = cache} {P = P} lists words now s fit many =
-    subst (λ (reply : _). Standing K false regs lists cache (P ▸ entry.Accept 0 lists words now reply)) (sym (accepted_ok lists words s)) (record {
-      legal = (s.legal, (sym (accepted_ok lists words s), fit, many));
-      is_so = s.is_so;
-      registers = s.registers;
-      unclosed = s.unclosed;
-      unretired = s.unretired;
-      home = s.home;
-      earlier = s.earlier;
-      queued = rw (all_kept lists, s.queued, append-nil s.earlier) refl;
-      counted = s.counted;
-      taken = λ r. s.taken r ∙ ap length (sym (quiet (calls_to K r P)));
-      caches = s.caches;
+-- a list was handled after a moment, and then all calls were made
+pub handled_one : (old mid done new : Seen) (now : ℕ) (how : Handled) → IfSome old.pairs.clock (λ pair. now ≡ pair.0) → mid ≡ with_moment now old
+    → Makes mid.core done.core Anyhow (entry.Handle 0 now how) → done.pairs ≡ mid.pairs → done.given ≡ mid.given → CallsAll done new → HandlesOne old new
+handled_one old mid done new now how at then makes pairs given calls K stopped begun start before h =
+    let w : IsWorking K stopped begun start before old = h.working in
+    let P : History = w.past in
+    let stands : Stands K done.core (P ▸ entry.Handle 0 now how) = makes K P (stands_as (ap (λ (s : Seen). s.core) then) w.runs.stands) tt in
+    let is : how ≡ handle_answer K P now = stands.legal.1.0 in
+    let S : Handled → Type 0 = λ reply. Stands K done.core (P ▸ entry.Handle 0 now reply) in
+    let gifts : done.given ≡ old.given ++ Now now ∷ [] = given ∙ ap (λ (s : Seen). s.given) then in
+    let told : done.pairs ≡ (with_moment now old).pairs = pairs ∙ ap (λ (s : Seen). s.pairs) then in
+    calls K stopped begun start before (record {
+      past = P ▸ entry.Handle 0 now (handle_answer K P now);
+      runs = runs_step (entry.Handle 0 now (handle_answer K P now)) (handle_quiet 0 now (handle_answer K P now)) w.runs (subst S is stands);
+      given = w.given ++ Now now ∷ [];
+      follows = gifts ∙ ap (λ (given : List Given). given ++ Now now ∷ []) w.follows ∙ append_assoc before w.given (Now now ∷ []);
+      works = handled w.works h.none stands.legal.1.1 refl;
+      gave = gave_as told gifts (gave_moment begun old.pairs old.given now w.gave at);
     })
 
--- ---- a list is handled
+pub calls_then_handles : (old mid new : Seen) → CallsAll old mid → HandlesOne mid new → CallsAll old new
+calls_then_handles old mid new calls handles K stopped begun start before w = handles K stopped begun start before (calls K stopped begun start before w)
 
-pub next_is : {K : Opening} {stopped : Bool} {regs : List Registration} {cache : CacheMap} {P : History} (v : ValueList) (queue : List ValueList) → Standing K stopped regs (v ∷ queue) cache P → next_list P ≡ Some v
-next_is v queue s = rw (s.queued, s.counted) (seam s.earlier v queue)
+-- ---- it is idle
 
--- all registrations are live
-pub live-is : {K : Opening} {stopped : Bool} {regs : List Registration} {queue : List ValueList} {cache : CacheMap} {P : History} → Standing K stopped regs queue cache P → live P ≡ regs
-live-is {regs = regs} {P = P} s = ap (filter (λ g. not (is_closed g.number P))) s.registers ∙ all_pass regs
-  where
-    all_pass : (gs : List Registration) → filter (λ g. not (is_closed g.number P)) gs ≡ gs
-    all_pass [] = refl
-    all_pass (g ∷ gs) = rw (s.unclosed g.number, all_pass gs) refl
+idle : (n m : ℕ) (o : Option ℕ) → n ≤ m → o ≡ None → IsTrue (nat_le n m && not (is_some o))
+idle n m o le is = rw is (grind arith)
 
--- what the next Handle does
-pub handles-as : {K : Opening} {stopped : Bool} {regs : List Registration} {cache : CacheMap} {P : History} (v : ValueList) (queue : List ValueList) (now : ℕ)
-    → Standing K stopped regs (v ∷ queue) cache P → next_handling K (cache_after K P) P now ≡ handling K cache regs v now
-handles-as {K = K} {cache = cache} {P = P} v queue now s =
-    ap (λ (next : Option ValueList). handling_if_any K (cache_after K P) (live P) next now) (next_is v queue s)
-    ∙ ap (λ (c : CacheMap). handling K c (live P) v now) s.caches
-    ∙ ap (λ (gs : List Registration). handling K cache gs v now) (live-is s)
+none_left : (n : ℕ) (xs queue : List ValueList) → queue ≡ drop n xs → length queue ≡ 0 → length xs ≤ n
+none_left n xs queue is none = omega (arith, length-drop n xs, ap length is)
 
-pub one_queued : {K : Opening} {stopped : Bool} {regs : List Registration} {cache : CacheMap} {P : History} (v : ValueList) (queue : List ValueList) → Standing K stopped regs (v ∷ queue) cache P → handles P < length (kept P)
-one_queued v queue s = rw (s.queued, s.counted) (omega (arith, length-append s.earlier (v ∷ queue)))
+pub worked : (old new : Seen) → CallsAll old new → length new.core.queue ≡ 0 → WorksOn old new
+worked old new calls none K stopped begun start before w =
+    let h : HasCalledAll K stopped begun start before new = calls K stopped begun start before w in
+    let P : History = h.working.past in
+    record {
+      working = h.working;
+      idle = idle (length (kept P)) (handles P) (ready K P) (none_left (handles P) (kept P) new.core.queue h.working.runs.stands.queue none) h.none;
+    }
 
-one_more : (xs : List ValueList) (v : ValueList) → length xs + 1 ≡ length (xs ++ v ∷ [])
-one_more xs v = omega (arith, length-append xs (v ∷ []))
-
--- where nobody is registered no call is made
-pub handles_alone : {K : Opening} {stopped : Bool} {cache : CacheMap} {P : History} (v : ValueList) (queue : List ValueList) (now : ℕ)
-    → Standing K stopped [] (v ∷ queue) cache P → Standing K stopped [] queue (handling K cache [] v now).cache (P ▸ entry.Handle 0 now (handle_answer K P now))
-handles_alone {K = K} {cache = cache} {P = P} v queue now s = record {
-  legal = (s.legal, (refl, one_queued v queue s));
-  is_so = s.is_so;
-  registers = s.registers;
-  unclosed = s.unclosed;
-  unretired = s.unretired;
-  home = s.home;
-  earlier = s.earlier ++ v ∷ [];
-  queued = s.queued ∙ sym (append_assoc s.earlier (v ∷ []) queue);
-  counted = ap (λ (n : ℕ). n + 1) s.counted ∙ one_more s.earlier v;
-  taken = λ r. s.taken r ∙ ap length (sym (ap (λ (posts : List Post). calls_to K r P ++ sent_to r posts) none ∙ quiet (calls_to K r P)));
-  caches = ap (λ (h : Handling). h.cache) (handles-as v queue now s);
-}
-  where
-    none : (next_handling K (cache_after K P) P now).posts ≡ []
-    none = ap (λ (h : Handling). h.posts) (handles-as v queue now s) ∙ sent_to_nobody K cache [] v now refl
-
--- The calls that a Handle makes to the only registration, a plug-in, are taken and answered, in order.
-module _ (K : Opening) (stopped : Bool) (g : Registration) (P : History) (v : ValueList) (queue : List ValueList) (cache : CacheMap) (now : ℕ)
-    (cs : List AnsweredCall) (s : Standing K stopped (g ∷ []) (v ∷ queue) cache P) (plugged : is_plug g.joining ≡ true)
-    (are : map (λ (p : Post). p.call) (handling K cache (g ∷ []) v now).posts ≡ calls_of cs) where
-  abbrev handled_first : History
-  handled_first = P ▸ entry.Handle 0 now (handle_answer K P now)
-
-  abbrev pub after_calls : History
-  after_calls = all_called g.number cs handled_first
-
-  alone_before : IsAlone K g (calls_to K g.number P) [] P
-  alone_before = record {
-    registered = s.registers;
-    plugged = plugged;
-    unretired = s.unretired g.number;
-    home = s.home g.number;
-    calls = sym (append-nil (calls_to K g.number P));
-    taken = s.taken g.number;
-  }
-
-  next-are : next_calls K g P now ≡ calls_of cs
-  next-are = ap (λ (h : Handling). sent_to g.number h.posts) (handles-as v queue now s) ∙ sent_all K cache g v now ∙ are
-
-  alone_then : IsAlone K g (calls_to K g.number P) (calls_of cs) handled_first
-  alone_then =
-      let A : List Call → Type 0 = λ calls. IsAlone K g (calls_to K g.number P) calls handled_first in
-      subst A next-are (alone_handled K g (calls_to K g.number P) P now alone_before)
-
-  -- each call was taken
-  all_taken : (t : Bool) (r : ℕ) → nat_eq g.number r ≡ t → takes r after_calls ≡ length (calls_to K r after_calls)
-  all_taken true r is =
-      let same : g.number ≡ r = grind (arith, is) in
-      let alone = alone_after K g (calls_to K g.number P) cs handled_first alone_then in
-      let own : takes g.number after_calls ≡ length (calls_to K g.number after_calls) = alone.taken ∙ ap length (sym (alone.calls ∙ append-nil _)) in
-      let T : ℕ → Type 0 = λ n. takes n after_calls ≡ length (calls_to K n after_calls) in
-      subst T same own
-  all_taken false r is =
-      let none : sent_to r (next_handling K (cache_after K P) P now).posts ≡ [] =
-      ap (λ (h : Handling). sent_to r h.posts) (handles-as v queue now s) ∙ sent_elsewhere K cache g v now r is in
-      called-takes g.number cs handled_first r is
-      ∙ s.taken r
-      ∙ ap length (sym (called-calls g.number K cs handled_first r ∙ ap (λ (xs : List Call). calls_to K r P ++ xs) none ∙ quiet (calls_to K r P)))
-
-  pub handles_called : Standing K stopped (g ∷ []) queue (handling K cache (g ∷ []) v now).cache after_calls
-  handles_called = record {
-    legal = legal_after K g (calls_to K g.number P) cs handled_first alone_then (s.legal, (refl, one_queued v queue s));
-    is_so = called-stopped g.number cs handled_first ∙ s.is_so;
-    registers = called-registrations g.number cs handled_first ∙ s.registers;
-    unclosed = λ r. called-closed g.number cs handled_first r ∙ s.unclosed r;
-    unretired = λ r. called-retired g.number cs handled_first r ∙ s.unretired r;
-    home = λ r. called-home g.number cs handled_first s.home r;
-    earlier = s.earlier ++ v ∷ [];
-    queued = called-kept g.number cs handled_first ∙ s.queued ∙ sym (append_assoc s.earlier (v ∷ []) queue);
-    counted = called-handles g.number cs handled_first ∙ ap (λ (n : ℕ). n + 1) s.counted ∙ one_more s.earlier v;
-    taken = λ r. all_taken (nat_eq g.number r) r refl;
-    caches = called-cache g.number K cs handled_first ∙ ap (λ (h : Handling). h.cache) (handles-as v queue now s);
-  }
-
-  pub works_called : {O : History} {given : List Given} → Works K IsAsked O given P
-      → Works K IsAsked O ((given ++ Now now ∷ []) ++ answers_of cs) after_calls
-  works_called {O = O} {given = given} so_far =
-      works_handled K g IsAsked O (calls_to K g.number P) cs P now given (Now now ∷ []) alone_before next-are so_far (none_ready s) (one_queued v queue s) refl
-
--- ---- a query
-
-pub asks : {K : Opening} {stopped : Bool} {regs : List Registration} {queue : List ValueList} {cache : CacheMap} {P : History} (name : Option (List ℕ))
-    → Standing K stopped regs queue cache P → Standing K stopped regs queue cache (P ▸ entry.Query 0 name (query_answer K P name))
-asks {K = K} {P = P} name s = record {
-  legal = (s.legal, refl);
-  is_so = s.is_so;
-  registers = s.registers;
-  unclosed = s.unclosed;
-  unretired = s.unretired;
-  home = s.home;
-  earlier = s.earlier;
-  queued = s.queued;
-  counted = s.counted;
-  taken = λ r. s.taken r ∙ ap length (sym (quiet (calls_to K r P)));
-  caches = s.caches;
-}
+pub until : {K : Opening} {stopped : Bool} {begun : Pairs} {start : History} {before : List Given} {seen : Seen} (h : HasWorked K stopped begun start before seen) → WorksUntilIdle K IsAsked start h.working.given h.working.past
+until h = record { works = h.working.works; idle = h.idle }

@@ -9,33 +9,40 @@ use Rattle.cd_conf.specs.declared.item.Item.{Item}
 use Rattle.cd_daemon.specs.Legal.{IsLegal}
 use Rattle.cd_daemon.specs.declared.Opening.{Opening}
 use Rattle.cd_dialogue.specs.Exchanges.{Exchanged}
-use Rattle.cd_dialogue.specs.Inputs.{AllServed, LinkLost, MemoryLacked, TooMuch}
+use Rattle.cd_dialogue.specs.Inputs.{AllServed, HearingFailed, LinkLost, MemoryLacked, TooMuch}
 use Rattle.cd_history.specs.History.{History, handles, kept}
 use Rattle.cd_history.specs.Order.{IsFrontOf}
 use Rattle.cd_history.specs.declared.given.Given.{Given}
 use Rattle.cd_io.specs.Link.{LinkTells, SaidInPart}
 use Rattle.cd_io.specs.World.{FileTells}
 use Rattle.cd_opening.specs.declared.opening.Opened.{Opened}
-use Rattle.cd_serve.specs.Shelf.{loaded_of}
-use Rattle.cd_serve.specs.Started.{FilesComeTo, IsRefusedAt, loads, opening_of}
+use Rattle.cd_serve.specs.Started.{FilesComeTo, IsRefusedAt, loaded_of, opening_of}
 use Rattle.cd_serve.specs.Tells.{GaveAll, Pairs}
 use Rattle.cd_serve.specs.declared.end.End.TheVariants as ends
 use Rattle.cd_serve.specs.declared.end.End.{End}
 use Rattle.cd_serve.specs.declared.program.TheConstants.{INPUT_LIMIT}
 use Rattle.cd_sock.specs.Lines.{Cut}
-use Rattle.cd_transcript.specs.LineRuns.{IsLineRun, OnShelf, Opens, ServesLines, returned}
+use Rattle.cd_transcript.specs.LineRuns.{IsLineRun, Loaded, OnShelf, Opens, ServesLines, returned}
 use Rattle.cd_transcript.specs.Transcripts.{IsTranscript, line_says, of_lines}
-use Rattle.std.specs.Prelude.{Bool, List, Ok, Option, Some, [], length, ℕ, ◌++◌, ◌∷◌, ◌≡◌, ◌≤◌, ◌⊎◌}
+use Rattle.std.specs.Prelude.{List, Ok, Option, Some, [], length, ℕ, ◌++◌, ◌∷◌, ◌≡◌, ◌≤◌, ◌⊎◌}
 
--- What holds of a run with this in force, which loads the plug-ins of these names.
-module _ (K : Opening) (loads : List ℕ → Bool) where
+-- Each plug-in of the shelf came back having got the calls of the registrations of its name in some history of a
+-- one-thread daemon with this in force.
+pub record IsBack (K : Opening) (shelf back : List OnShelf) : Type 0 where
+  pub history : History
+  pub legal : IsLegal K history
+  pub told : back ≡ returned history shelf
+
+-- What holds of a run with this in force, where `loads` says which plug-ins of a shelf are loaded, in order, each with
+-- its block.
+module _ (K : Opening) (loads : List OnShelf → List Loaded) where
   -- The history of a run over these lines: it is a one-thread daemon's, and the one that the loaded plug-ins, the
   -- lines and what was given make, which make no other; every list that was kept was handled; and each plug-in of the
   -- shelf came back having got the calls of the registrations of its name.
   pub record IsRun (shelf back : List OnShelf) (lines : List Cut) (given : List Given) (H : History) : Type 0 where
     pub legal : IsLegal K H
-    pub made : IsLineRun K (line_says K) (loaded_of loads shelf) lines given H
-    pub only : (other : History) → IsLineRun K (line_says K) (loaded_of loads shelf) lines given other → other ≡ H
+    pub made : IsLineRun K (line_says K) (loads shelf) lines given H
+    pub only : (other : History) → IsLineRun K (line_says K) (loads shelf) lines given other → other ≡ H
     pub handled : handles H ≡ length (kept H)
     pub told : back ≡ returned H shelf
 
@@ -55,11 +62,15 @@ module _ (K : Opening) (loads : List ℕ → Bool) where
     pub history : History
     pub given_first : List Given
     pub given_lines : List Given
-    pub opens : Opens (loaded_of loads shelf) [] given_first opened
+    pub opens : Opens (loads shelf) [] given_first opened
     pub serves : ServesLines K (line_says K) lines opened given_lines history
     pub legal : IsLegal K history
     pub transcript : IsTranscript (line_says K) lines (of_lines history) text
     pub gave : GaveAll begun (given_first ++ given_lines)
+
+  -- .. and nothing was written: all of these lines are blank
+  abbrev pub HasBegunUnasked : List OnShelf → Pairs → List Cut → List ℕ → Type 0
+  HasBegunUnasked shelf begun lines text = HasBegun shelf begun lines text × (text ≡ [])
 
   -- The earlier lines were served with these replies, and then a last one with this reply: all of them in one history,
   -- as lines of a run are, and the earlier ones as those of a run that broke off behind them, in the front of that
@@ -70,6 +81,13 @@ module _ (K : Opening) (loads : List ℕ → Bool) where
     pub run : HasRun shelf back given begun (earlier ++ last ∷ []) (replies ++ reply)
     pub front : IsFrontOf before.history run.history
 
+  -- Memory was lacking while lines were served, or in the work behind them; where the link failed, only in the calls that
+  -- wait since the opening, while no line was heard that isn't blank.
+  pub record HasLacked (shelf back : List OnShelf) (begun : Pairs) (before after : LinkTells) : Type 0 where
+    pub returned : IsBack K shelf back
+    pub served : MemoryLacked (λ lines given_up text. HasBegun shelf begun lines text) INPUT_LIMIT before after
+        ⊎ HearingFailed (HasBegunUnasked shelf begun) INPUT_LIMIT before after
+
   -- What a run over lines promises at each end, by its shelf before and after, by what was given, by what clock and
   -- dice told at first, and by what the link tells before and after. `cd_dialogue` says which lines were served and
   -- what was said.
@@ -79,8 +97,7 @@ module _ (K : Opening) (loads : List ℕ → Bool) where
     PromisesLines ends.InputTooLong = TooMuch (HasRun shelf back given begun) INPUT_LIMIT before after
     PromisesLines ends.LinkFault =
         LinkLost (HasRun shelf back given begun) (HasRunToLast shelf back given begun) INPUT_LIMIT before after
-    PromisesLines ends.Memory =
-        MemoryLacked (λ lines given_up text. HasBegun shelf begun lines text) INPUT_LIMIT before after
+    PromisesLines ends.Memory = HasLacked shelf back begun before after
     PromisesLines _ = ⊥
 
 -- What a test of the configuration promises at each end: the canonical text of the items was said whole, or only its
@@ -109,7 +126,7 @@ module _ (words : List (List ℕ)) (files : Option (List FileTells))
   -- the run did what a command of this mode is for, with what its files came to
   abbrev pub Does : Mode → Option (List ℕ) → Opened → End → Type 0
   Does Lines file found end =
-      PromisesLines (opening_of found) (loads file found.settings.loaded) shelf back given begun before after end
+      PromisesLines (opening_of found) (loaded_of file found.settings) shelf back given begun before after end
   Does Test file found end = IsUncalled shelf back given × Writes found.items before after end
 
   -- the words are a command, and it was run with what its files came to

@@ -14,10 +14,13 @@ use Rattle.cd_opening.specs.declared.opening.Opened.{Opened}
 use Rattle.cd_serve.specs.declared.end.End.TheVariants as ends
 use Rattle.cd_serve.specs.declared.end.End.{End}
 use Rattle.cd_settings.specs.Settings.{settings_of}
+use Rattle.cd_settings.specs.declared.blocks.Block.{Block}
 use Rattle.cd_settings.specs.declared.fault.SettingsFault.{SettingsFault}
 use Rattle.cd_settings.specs.declared.settings.Settings.{Settings}
-use Rattle.std.specs.List.{list_any}
-use Rattle.std.specs.Prelude.{Bool, Err, List, None, Ok, Option, Result, Some, false, true, ℕ, ◌≡◌}
+use Rattle.cd_transcript.specs.LineRuns.{Loaded, OnShelf}
+use Rattle.std.specs.List.{filter, find, flat_map}
+use Rattle.std.specs.Option.{option_map_or}
+use Rattle.std.specs.Prelude.{Bool, Err, List, None, Ok, Option, Result, Some, [], false, map, true, ℕ, ◌≡◌}
 use Rattle.std.specs.Str.{bytes_eq}
 
 -- What the file of a command comes to, with the types files that it names; without one it is what is in force without a
@@ -36,10 +39,22 @@ abbrev pub opening_of : Opened → Opening
 opening_of found =
     record { types = found.types; globals = found.settings.globals; rules = rules_of found.settings }
 
--- whether a plug-in of the shelf is loaded, by its name: without a file each is, with one those that it loads
-abbrev pub loads : Option (List ℕ) → List (List ℕ) → List ℕ → Bool
-loads None loaded name = true
-loads (Some path) loaded name = list_any (λ other. bytes_eq name other) loaded
+-- the block of a plug-in in the configuration, and no text where it has none
+abbrev pub config_of : List Block → List ℕ → List ℕ
+config_of blocks name = option_map_or (λ block. block.text) (find (λ block. bytes_eq name block.name) blocks) []
+
+abbrev pub with_block : List Block → OnShelf → Loaded
+with_block blocks plug = record { plug = plug; config = config_of blocks plug.name }
+
+-- those of a shelf that have a name
+abbrev pub named_on : List OnShelf → List ℕ → List OnShelf
+named_on shelf name = filter (λ plug. bytes_eq plug.name name) shelf
+
+-- The plug-ins of a shelf that are loaded, each with its block, in the order in which they are: without a file all of
+-- them, with one those that it loads.
+abbrev pub loaded_of : Option (List ℕ) → Settings → List OnShelf → List Loaded
+loaded_of None settings shelf = map (with_block []) shelf
+loaded_of (Some path) settings shelf = map (with_block settings.blocks) (flat_map (named_on shelf) settings.loaded)
 
 module _ (words : List (List ℕ)) (files : Option (List FileTells)) where
   -- the words are a command, and its files have this first fault

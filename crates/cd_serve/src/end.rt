@@ -14,7 +14,7 @@ use std::alloc::Global;
 /// How a run of the daemon ends.
 #[derive(Drop, PartialEq, Eq)]
 pub enum End {
-    /// The work was done: all lines that were heard were served, or the settings were written.
+    /// The work was done: all lines that were heard were served, or the configuration's canonical text was written.
     Done,
     /// The words of the command line are none of the program's.
     Usage,

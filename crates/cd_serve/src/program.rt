@@ -4,20 +4,19 @@ ghost use Rattle.cd_command.specs.declared.command.Command.{Command};
 ghost use Rattle.cd_io.specs.Causes.{Rose};
 ghost use Rattle.cd_opening.specs.declared.fault.OpeningFault.{OpeningFault};
 ghost use Rattle.cd_serve.specs.Promises.{IsTaken, Promises};
-ghost use Rattle.cd_serve.specs.Shelf.{on_shelf, places};
+ghost use Rattle.cd_serve.specs.Shelf.{CanBeLoaded, names_on, on_shelf, places};
 ghost use Rattle.cd_serve.specs.Started.{AreAccepted, AreRefused, HasTried, IsFree, NoneFailed, end_at};
-ghost use Rattle.std.specs.Prelude.{None, Some, [], length, map, string_bytes, ◌≡◌, ◌≤◌, ◌⊎◌};
+ghost use Rattle.std.specs.Prelude.{None, Some, [], map, string_bytes, ◌≡◌, ◌⊎◌};
 
 use crate::configured::say_items;
-use crate::lines::serve_lines;
-use crate::outside::Around;
+use crate::lines::{Handed, serve_lines};
 use crate::started::start;
 use crate::{End, Shelved, ShelvedOf, ShelvedProbe, ShelvedProbeOf};
 use cd_cache::HashKey;
 use cd_command::Mode;
 use cd_history::Givens;
 use cd_io::{Dice, Link, World};
-use cd_registry::{Plug, Probe};
+use cd_registry::{Plug, Probe, TellsCalls};
 use cd_value::Sequence;
 use std::alloc::Global;
 use std::marker::Send;
@@ -39,7 +38,7 @@ pub struct RanOf<P, Q> {
 pub type Ran = RanOf<Box<dyn Plug + Send>, Box<dyn Probe + Send>>;
 
 /// What a run gives back in which no plug-in was called.
-fn uncalled<P: Drop, Q: Drop>(
+pub(crate) fn uncalled<P: Drop, Q: Drop>(
     alloc: Global,
     end: End,
     plugs: Vec<ShelvedOf<P>>,
@@ -64,7 +63,7 @@ fn drawn<D: Dice>(dice: &mut D) -> HashKey {
 }
 
 /// Runs the daemon on one thread, over plug-ins and readers of any type, as `run` does.
-pub fn run_of<W: World, L: Link, P: Plug, Q: Drop>(
+pub fn run_of<W: World, L: Link, P: Plug, Q: Probe>(
     alloc: Global,
     words: &[String],
     world: &mut W,
@@ -72,7 +71,7 @@ pub fn run_of<W: World, L: Link, P: Plug, Q: Drop>(
     shelf: Vec<ShelvedOf<P>>,
     probes: Vec<ShelvedProbeOf<Q>>,
 ) -> RanOf<P, Q>
-    requires few { length shelf.items ≤ 1 }
+    requires loadable { CanBeLoaded (names_on shelf.items probes.items) }
     ensures promises { Promises
         (map string_bytes words.now) (W.world_tells world.old).files
         (on_shelf P.plug_tells shelf.items) (on_shelf P.plug_tells result.plugs.items)
@@ -111,13 +110,14 @@ pub fn run_of<W: World, L: Link, P: Plug, Q: Drop>(
             uncalled(alloc, end, shelf, probes)
         }
         Mode::Lines => {
-            let outside = Around {
+            let handed = Handed {
                 clock: world.clock(),
                 dice: world.dice(),
+                key: drawn(&mut world.dice()),
                 plugs: shelf,
+                probes,
             };
-            let key = drawn(&mut world.dice());
-            serve_lines(alloc, &command.file, found, input, outside, probes, key)
+            serve_lines(alloc, &command.file, found, input, handed)
         }
     }
 }
@@ -127,14 +127,17 @@ pub fn run_of<W: World, L: Link, P: Plug, Q: Drop>(
 /// The file of `-C` is read, then the types files that it names, and its settings are made; without a file the types
 /// are the four built-in ones, and the settings those that no option names. With `-t` the canonical text of the
 /// configuration is said, and nothing is heard. With `--lines` the lines of the input are those of
-/// collectd-unixsock(5): the first plug-in is registered under its name where the file loads it or none is named, each
-/// line is answered, its lists pass the filter chains of the file and the cache and are written, and at the end of the
-/// input all objects come back, each in its place. A quiet counts as the end of the input.
+/// collectd-unixsock(5): the plug-ins of the shelf are registered under their names, those that the file loads in the
+/// order in which it does, or all where none is named. Each line is answered, its lists pass the filter chains of the
+/// file and the cache and are written, and a plug-in with CONFIGURE gets its block of the configuration first. At the
+/// end of the input the daemon stops, works until nothing waits, and all objects come back, each in its place. A quiet
+/// counts as the end of the input. The names on both shelves together have to differ, none may be one of the daemon's
+/// own, and there may be `LIVE_LIMIT` of them: `check_shelves` says so. Readers are handed back unread.
 ///
 /// It ends with the first of these in order: `Usage` at words that are no command; `ConfFault`, `TypesFault`,
-/// `SettingsFault`, `OpenFault` and `ReadFault` by the files; `LinkFault` where the input failed; `InputTooLong` where
-/// more than `INPUT_LIMIT` bytes came. `Memory` may come at any time, and a `SettingsFault` for a regular expression
-/// that is too big when it is compiled.
+/// `SettingsFault`, `OpenFault` and `ReadFault` by the files; `LinkFault` where hearing or saying failed;
+/// `InputTooLong` where more than `INPUT_LIMIT` bytes came; and else with `Done`. `Memory` may come at any time, and a
+/// `SettingsFault` for a regular expression that is too big when it is compiled.
 pub fn run<W: World, L: Link>(
     alloc: Global,
     words: &[String],
@@ -143,11 +146,11 @@ pub fn run<W: World, L: Link>(
     shelf: Vec<Shelved>,
     probes: Vec<ShelvedProbe>,
 ) -> Ran
-    requires few { length shelf.items ≤ 1 }
+    requires loadable { CanBeLoaded (names_on shelf.items probes.items) }
     ensures promises { Promises
         (map string_bytes words.now) (W.world_tells world.old).files
-        (on_shelf ⟦<Box<dyn Plug + Send> as Plug>⟧.plug_tells shelf.items)
-        (on_shelf ⟦<Box<dyn Plug + Send> as Plug>⟧.plug_tells result.plugs.items)
+        (on_shelf ⟦<Box<dyn Plug + Send> as TellsCalls>⟧.plug_tells shelf.items)
+        (on_shelf ⟦<Box<dyn Plug + Send> as TellsCalls>⟧.plug_tells result.plugs.items)
         result.given
         (record { clock = W.world_clock_pair world.old; dice = W.world_dice_pair world.old })
         (L.link_tells input.old) (L.link_tells input.new)
@@ -169,8 +172,8 @@ pub fn run<W: World, L: Link>(
         → (Rose (L.link_tells input.old).faults (L.link_tells input.new).faults → ⊥)
         → IsTaken of.mode (L.link_tells input.old) (L.link_tells input.new)
         → (result.end ≡ End.Done) ⊎ IsFree of.file (W.world_tells world.old).files result.end }
-    ensures back { places (on_shelf ⟦<Box<dyn Plug + Send> as Plug>⟧.plug_tells result.plugs.items)
-        ≡ places (on_shelf ⟦<Box<dyn Plug + Send> as Plug>⟧.plug_tells shelf.items) }
+    ensures back { places (on_shelf ⟦<Box<dyn Plug + Send> as TellsCalls>⟧.plug_tells result.plugs.items)
+        ≡ places (on_shelf ⟦<Box<dyn Plug + Send> as TellsCalls>⟧.plug_tells shelf.items) }
     ensures probes { result.probes.items ≡ probes.items }
 {
     run_of(alloc, words, world, input, shelf, probes)

@@ -12,7 +12,7 @@ pub struct ShelvedOf<P> {
     pub object: P,
 }
 
-/// A reader that is handed to a run: the name under which it is registered, and its object.
+/// A reader that is handed to a run, which hands it back unread: its name, and its object.
 #[derive(Drop)]
 pub struct ShelvedProbeOf<Q> {
     pub name: Text,

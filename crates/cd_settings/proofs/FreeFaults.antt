@@ -4,7 +4,7 @@ use Rattle.cd_conf.specs.declared.item.Item.{Item}
 use Rattle.cd_pattern.specs.Patterns.{is_pattern}
 use Rattle.cd_reading.specs.First.{◌>>=◌}
 use Rattle.cd_reading.specs.Gives.{Gives, Refuses}
-use Rattle.cd_settings.specs.BigPatterns.{bad_pattern, begins_with_pattern, has_line, item_fault, option_line, pattern_lines, told, told_of}
+use Rattle.cd_settings.specs.BigPatterns.{as_settings_fault, bad_pattern, begins_with_pattern, has_line, item_fault, option_line, pattern_lines, told_of}
 use Rattle.cd_settings.specs.Faults.{settings_fault}
 use Rattle.cd_settings.specs.MatchOptions.{pattern_of}
 use Rattle.cd_settings.specs.declared.fault.ItemFault.TheVariants.{Fault, NotCompiled}
@@ -73,18 +73,14 @@ plain_kind items kinds.UnknownOption line read h = h
 plain_kind items kinds.WrongArgs line read h = h
 plain_kind items kinds.LimitsCrossed line read h = h
 plain_kind items kinds.TooMany line read h = h
-plain_kind items kinds.DuplicateChain line read h = h
-plain_kind items kinds.EmptyRule line read h = h
-plain_kind items kinds.UnknownChain line read h = h
-plain_kind items (kinds.JumpCycle names) line read h = h
-plain_kind items kinds.ChainTooHeavy line read h = h
+plain_kind items (kinds.Chain why) line read h = h
 plain_kind items kinds.Memory line read h = h
 
 pub plainly : {Y : Type 0} (items : List Item) (e : SettingsFault) (read : Result Y SettingsFault) → Refuses (settings_fault e) read → Refuses (told_of items e) read
 plainly items e read h = plain_kind items e.kind e.line read h
 
 pub told_as : {X Y : Type 0} (items : List Item) (e : ItemFault) (read : Result X SettingsFault) (f : X → Result Y SettingsFault)
-    → Refuses (item_fault (pattern_lines items) e) read → Refuses (told_of items (told e)) (read >>= f)
+    → Refuses (item_fault (pattern_lines items) e) read → Refuses (told_of items (as_settings_fault e)) (read >>= f)
 told_as {X} {Y} items (Fault e) read f h = plainly items e (read >>= f) (by (settings_fault e) h)
   where
     by : (o : Option SettingsFault) → Refuses o read → Refuses o (read >>= f)

@@ -74,27 +74,27 @@ abbrev pub lines_given : {A : Type 0} → Option A → (A → Item → List ℕ)
 lines_given None lines item = []
 lines_given (Some x) lines item = lines x item
 
-abbrev pub lines_in_rule : Rule → Item → List ℕ
-lines_in_rule rule item =
+abbrev pub rule_item_lines : Rule → Item → List ℕ
+rule_item_lines rule item =
     if has_key (codes "Match") item then lines_given (text (args_of item)) match_lines item
     else (if has_key (codes "Target") item then lines_given (text (args_of item)) target_lines item
     else [])
 
 abbrev pub rule_lines : Item → List ℕ
-rule_lines item = lines_of_all (by_table rule_options) lines_in_rule no_parts (children_of item)
+rule_lines item = lines_of_all (by_table rule_options) rule_item_lines no_parts (children_of item)
 
-abbrev pub lines_in_chain : Chain → Item → List ℕ
-lines_in_chain chain item =
+abbrev pub chain_item_lines : Chain → Item → List ℕ
+chain_item_lines chain item =
     if is_section_named (codes "Rule") item
     then lines_given (perhaps_text (args_of item)) (λ _ item. rule_lines item) item
     else (if has_key (codes "Target") item then lines_given (text (args_of item)) target_lines item
     else [])
 
 abbrev pub chain_lines : List ℕ → Item → List ℕ
-chain_lines name item = lines_of_all (by_table chain_options) lines_in_chain (named name) (children_of item)
+chain_lines name item = lines_of_all (by_table chain_options) chain_item_lines (named name) (children_of item)
 
-abbrev pub lines_in_configuration : Configuration → Item → List ℕ
-lines_in_configuration c item =
+abbrev pub top_item_lines : Configuration → Item → List ℕ
+top_item_lines c item =
     if is_section_named (codes "Chain") item then lines_given (text (args_of item)) chain_lines item else []
 
 -- ---- the whole
@@ -102,7 +102,7 @@ lines_in_configuration c item =
 -- The lines of the patterns that the reading of a configuration comes to: all items before such an option are in order,
 -- the option is, and its text is a pattern.
 abbrev pub pattern_lines : List Item → List ℕ
-pattern_lines items = lines_of_all (by_table_or within_top chain_sections) lines_in_configuration beginning items
+pattern_lines items = lines_of_all (by_table_or within_top chain_sections) top_item_lines beginning items
 
 abbrev pub has_line : List ℕ → ℕ → Bool
 has_line lines line = list_any (λ other. other == line) lines
@@ -120,10 +120,10 @@ abbrev pub item_fault : List ℕ → ItemFault → Option SettingsFault
 item_fault free (Fault fault) = settings_fault fault
 item_fault free (NotCompiled line) = if has_line free line then None else Some (bad_pattern line)
 
--- what the daemon says of it
-abbrev pub told : ItemFault → SettingsFault
-told (Fault fault) = fault
-told (NotCompiled line) = bad_pattern line
+-- the fault of the items: a pattern that wasn't compiled is a bad one
+abbrev pub as_settings_fault : ItemFault → SettingsFault
+as_settings_fault (Fault fault) = fault
+as_settings_fault (NotCompiled line) = bad_pattern line
 
 abbrev pub unless_free : List ℕ → SettingsKind → SettingsFault → Option SettingsFault
 unless_free free BadPattern fault = if has_line free fault.line then None else Some fault

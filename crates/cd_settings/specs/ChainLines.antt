@@ -9,7 +9,8 @@ use Rattle.cd_conf.specs.declared.item.Arg.{Arg}
 use Rattle.cd_conf.specs.declared.item.Item.{Item}
 use Rattle.cd_settings.specs.Tables.{has_key, is_option_named, is_section_named}
 use Rattle.cd_settings.specs.declared.fault.SettingsFault.{SettingsFault}
-use Rattle.cd_settings.specs.declared.fault.SettingsKind.TheVariants.{ChainTooHeavy, DuplicateChain, EmptyRule, JumpCycle, Memory, UnknownChain}
+use Rattle.cd_settings.specs.declared.fault.SettingsKind.TheVariants as kinds
+use Rattle.cd_settings.specs.declared.fault.SettingsKind.{SettingsKind}
 use Rattle.std.specs.List.{filter, find, flat_map, list_any}
 use Rattle.std.specs.Option.{option_map_or}
 use Rattle.std.specs.Prelude.{Bool, Err, List, None, Ok, Option, Result, Some, [], codes, false, slice_get, ℕ, ◌&&◌, ◌++◌, ◌∷◌}
@@ -68,25 +69,22 @@ walk_line items (first ∷ second ∷ more) =
     line_in (jump_in (inside (find (is_chain_named first) items)) second)
 walk_line items _ = 0
 
--- names with commas between
-abbrev pub joined : List (List ℕ) → List ℕ
-joined [] = []
-joined (first ∷ more) = first ++ flat_map (λ name. codes ", " ++ name) more
+-- the second chain of a name, the rule, the jump, the chain, the jump that begins the walk
+abbrev pub line_of_fault : List Item → ChainFault → ℕ
+line_of_fault items (faults.Duplicate n) = line_in (chain_at items n)
+line_of_fault items (faults.EmptyRule n r) = line_in (section_at (codes "Rule") (inside (chain_at items n)) r)
+line_of_fault items (faults.UnknownChain n name) = line_in (jump_in (inside (chain_at items n)) name)
+line_of_fault items (faults.TooHeavy n) = line_in (chain_at items n)
+line_of_fault items (faults.JumpCycle names) = walk_line items names
+line_of_fault items faults.Memory = 0
 
--- the second chain of a name, the rule, the jump, the jump that begins the walk, the chain
+-- the fault of a table is told as it is, and want of memory as everywhere
+abbrev pub kind_of_fault : ChainFault → SettingsKind
+kind_of_fault faults.Memory = kinds.Memory
+kind_of_fault why = kinds.Chain why
+
 abbrev pub chain_fault : List Item → ChainFault → SettingsFault
-chain_fault items (faults.Duplicate n) = record { kind = DuplicateChain; line = line_in (chain_at items n) }
-chain_fault items (faults.EmptyRule n r) = record {
-  kind = EmptyRule;
-  line = line_in (section_at (codes "Rule") (inside (chain_at items n)) r);
-}
-chain_fault items (faults.UnknownChain n name) = record {
-  kind = UnknownChain;
-  line = line_in (jump_in (inside (chain_at items n)) name);
-}
-chain_fault items (faults.JumpCycle names) = record { kind = JumpCycle (joined names); line = walk_line items names }
-chain_fault items (faults.TooHeavy n) = record { kind = ChainTooHeavy; line = line_in (chain_at items n) }
-chain_fault items faults.Memory = record { kind = Memory; line = 0 }
+chain_fault items why = record { kind = kind_of_fault why; line = line_of_fault items why }
 
 abbrev pub refused_for : List Item → List Chain → Option ChainFault → Result (List Chain) SettingsFault
 refused_for items chains None = Ok chains

@@ -1,16 +1,16 @@
 //! The faults of chains, with their lines.
 ghost use Rattle.cd_conf.specs.Parts.{args_of};
 ghost use Rattle.cd_reading.specs.Gives.{Gives};
-ghost use Rattle.cd_settings.specs.ChainLines.{accepted, chain_fault, inside, is_chain_named, is_text_of, joined, jump_in, jumps_to, line_in, names_chain, section_at, targets_in_rules, walk_line};
+ghost use Rattle.cd_settings.specs.ChainLines.{accepted, chain_fault, inside, is_chain_named, is_text_of, jump_in, jumps_to, kind_of_fault, line_in, line_of_fault, names_chain, section_at, targets_in_rules, walk_line};
 ghost use Rattle.cd_settings.specs.Faults.{settings_fault};
 ghost use Rattle.std.specs.List.{find, list_any};
-ghost use Rattle.std.specs.Prelude.{IfOk, option_copied, ◌≡◌};
+ghost use Rattle.std.specs.Prelude.{option_copied, ◌≡◌};
 
 use crate::fault::{SettingsFault, SettingsKind};
 use crate::items::{either, option, section};
 use cd_chain::{ChainFault, ChainTable, Chains};
 use cd_conf::{Arg, Item};
-use cd_value::{Memory, Text, TryCopy};
+use cd_value::Text;
 use std::alloc::Global;
 
 /// The section of a number among those of a name.
@@ -142,58 +142,44 @@ fn walk_line(items: &[Item], names: &[Text]) -> u32
     }
 }
 
-/// Names with commas between.
-fn joined(alloc: Global, names: &[Text]) -> Result<Text, Memory>
-    ensures { IfOk result (λ text. text ≡ joined names.now) }
-{
-    match names {
-        [] => Ok(Text::new(alloc)),
-        [first, more @ ..] => {
-            let mut text = first.copy(alloc)?;
-            for name in more {
-                text.push(", ")?;
-                text.push(name.as_str())?;
-            }
-            Ok(text)
-        }
-    }
-}
-
-/// The fault of chains, at its line.
-fn chain_fault(alloc: Global, items: &[Item], why: &ChainFault) -> Result<SettingsFault, Memory>
-    ensures { IfOk result (λ fault. fault ≡ chain_fault items.now why.now) }
+/// The line of the fault of a table, and 0 for want of memory.
+fn line_of_fault(items: &[Item], why: &ChainFault) -> u32
+    ensures { result ≡ line_of_fault items.now why.now }
 {
     match why {
-        ChainFault::Duplicate(chain) => Ok(SettingsFault {
-            kind: SettingsKind::DuplicateChain,
-            line: line_in(section_at(items, "Chain", *chain)),
-        }),
+        ChainFault::Duplicate(chain) => line_in(section_at(items, "Chain", *chain)),
         ChainFault::EmptyRule(chain, rule) => {
             let inner = inside(section_at(items, "Chain", *chain));
-            Ok(SettingsFault {
-                kind: SettingsKind::EmptyRule,
-                line: line_in(section_at(inner, "Rule", *rule)),
-            })
+            line_in(section_at(inner, "Rule", *rule))
         }
         ChainFault::UnknownChain(chain, name) => {
             let inner = inside(section_at(items, "Chain", *chain));
-            Ok(SettingsFault {
-                kind: SettingsKind::UnknownChain,
-                line: line_in(jump_in(inner, name.as_str())),
-            })
+            line_in(jump_in(inner, name.as_str()))
         }
-        ChainFault::JumpCycle(names) => Ok(SettingsFault {
-            kind: SettingsKind::JumpCycle(joined(alloc, names.as_slice())?),
-            line: walk_line(items, names.as_slice()),
-        }),
-        ChainFault::TooHeavy(chain) => Ok(SettingsFault {
-            kind: SettingsKind::ChainTooHeavy,
-            line: line_in(section_at(items, "Chain", *chain)),
-        }),
-        ChainFault::Memory => Ok(SettingsFault {
-            kind: SettingsKind::Memory,
-            line: 0,
-        }),
+        ChainFault::TooHeavy(chain) => line_in(section_at(items, "Chain", *chain)),
+        ChainFault::JumpCycle(walk) => walk_line(items, walk.as_slice()),
+        ChainFault::Memory => 0,
+    }
+}
+
+/// The kind of a table's fault: the fault itself, but for want of memory.
+fn kind_of_fault(why: ChainFault) -> SettingsKind
+    ensures { result ≡ kind_of_fault why }
+{
+    match why {
+        ChainFault::Memory => SettingsKind::Memory,
+        why => SettingsKind::Chain(why),
+    }
+}
+
+/// The fault of a table, at its line.
+fn chain_fault(items: &[Item], why: ChainFault) -> SettingsFault
+    ensures { result ≡ chain_fault items.now why }
+{
+    let line = line_of_fault(items, &why);
+    SettingsFault {
+        kind: kind_of_fault(why),
+        line,
     }
 }
 
@@ -203,6 +189,6 @@ pub fn accepted(alloc: Global, items: &[Item], chains: Chains) -> Result<ChainTa
 {
     match ChainTable::build(alloc, chains) {
         Ok(table) => Ok(table),
-        Err(refused) => Err(chain_fault(alloc, items, &refused.why)?),
+        Err(refused) => Err(chain_fault(items, refused.why)),
     }
 }

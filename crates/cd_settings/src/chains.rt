@@ -44,7 +44,7 @@ fn add_target(alloc: Global, rule: &mut Rule, item: &Item) -> Result<(), ItemFau
 }
 
 impl Section for Rule {
-    ghost use Rattle.cd_settings.specs.BigPatterns.{lines_in_rule};
+    ghost use Rattle.cd_settings.specs.BigPatterns.{rule_item_lines};
     ghost use Rattle.cd_settings.specs.ChainOptions.{rule_options};
     ghost use Rattle.cd_settings.specs.Tables.{by_table};
 
@@ -52,7 +52,7 @@ impl Section for Rule {
 
     ghost change = { by_table rule_options };
 
-    ghost lines = { lines_in_rule };
+    ghost lines = { rule_item_lines };
 
     fn take(&mut self, alloc: Global, item: &Item) -> Result<(), ItemFault> {
         by_table! { item, Ok(unknown(item)?);
@@ -101,7 +101,7 @@ fn add_default(alloc: Global, chain: &mut Chain, item: &Item) -> Result<(), Item
 }
 
 impl Section for Chain {
-    ghost use Rattle.cd_settings.specs.BigPatterns.{lines_in_chain};
+    ghost use Rattle.cd_settings.specs.BigPatterns.{chain_item_lines};
     ghost use Rattle.cd_settings.specs.ChainOptions.{chain_options};
     ghost use Rattle.cd_settings.specs.Tables.{by_table};
 
@@ -109,7 +109,7 @@ impl Section for Chain {
 
     ghost change = { by_table chain_options };
 
-    ghost lines = { lines_in_chain };
+    ghost lines = { chain_item_lines };
 
     fn take(&mut self, alloc: Global, item: &Item) -> Result<(), ItemFault> {
         by_table! { item, Ok(unknown(item)?);

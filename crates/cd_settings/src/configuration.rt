@@ -56,7 +56,7 @@ impl Configuration {
 }
 
 impl Section for Configuration {
-    ghost use Rattle.cd_settings.specs.BigPatterns.{lines_in_configuration};
+    ghost use Rattle.cd_settings.specs.BigPatterns.{top_item_lines};
     ghost use Rattle.cd_settings.specs.Tables.{by_table_or};
     ghost use Rattle.cd_settings.specs.TopLevel.{chain_sections, within_top};
 
@@ -64,7 +64,7 @@ impl Section for Configuration {
 
     ghost change = { by_table_or within_top chain_sections };
 
-    ghost lines = { lines_in_configuration };
+    ghost lines = { top_item_lines };
 
     fn take(&mut self, alloc: Global, item: &Item) -> Result<(), ItemFault> {
         by_table! { item, Ok(self.top.take(alloc, item)?);

@@ -1,8 +1,11 @@
 //! Why items make no settings.
-ghost use Rattle.cd_settings.specs.BigPatterns.{told};
+ghost use Rattle.cd_settings.specs.BigPatterns.{as_settings_fault};
+ghost use Rattle.cd_settings.specs.Words.{chain_words, joined};
 ghost use Rattle.cd_settings.specs.declared.fault.SettingsKind.TheVariants as kinds;
+ghost use Rattle.std.specs.Fmt.{WritesOnOk};
 ghost use Rattle.std.specs.Prelude.{◌≡◌};
 
+use cd_chain::ChainFault;
 use cd_value::{Memory, Text, TryCopy};
 use std::alloc::{AllocError, AllocFailed, Global};
 use std::fmt;
@@ -17,20 +20,12 @@ pub enum SettingsKind {
     WrongArgs,
     /// A text that is no regular expression, or one that is nested too deep or too big when it is compiled.
     BadPattern,
+    /// The fault of the table of chains, which is never want of memory.
+    Chain(ChainFault),
     /// The lower limit of the write queue is above the upper one.
     LimitsCrossed,
     /// A Listen behind `LISTENS_LIMIT` others.
     TooMany,
-    /// A chain of a name that an earlier one has.
-    DuplicateChain,
-    /// A rule without a target.
-    EmptyRule,
-    /// A jump to no chain.
-    UnknownChain,
-    /// A jump by which a chain reaches itself: the names of the chains from it to itself, with commas between.
-    JumpCycle(Text),
-    /// A chain that weighs more than 4,096: a target weighs 1, and a jump 1 more than its chain.
-    ChainTooHeavy,
     /// Memory was lacking.
     Memory,
 }
@@ -44,6 +39,38 @@ pub struct SettingsFault {
     pub line: u32,
 }
 
+/// Writes names with commas between.
+fn write_names<W: fmt::Write>(f: &mut fmt::Formatter<W>, names: &[Text]) -> fmt::Result
+    ensures { WritesOnOk W.write_str_gives f.old result (joined names.now) f.new }
+{
+    let [first, more @ ..] = names else {
+        return Ok(());
+    };
+    f.write_str(first.as_str())?;
+    for name in more {
+        f.write_str(", ")?;
+        f.write_str(name.as_str())?;
+    }
+    Ok(())
+}
+
+/// Writes what is said of the fault of a table of chains.
+fn write_chain_words<W: fmt::Write>(f: &mut fmt::Formatter<W>, why: &ChainFault) -> fmt::Result
+    ensures { WritesOnOk W.write_str_gives f.old result (chain_words why.now) f.new }
+{
+    match why {
+        ChainFault::Duplicate(_) => f.write_str("duplicate chain"),
+        ChainFault::EmptyRule(_, _) => f.write_str("empty rule"),
+        ChainFault::UnknownChain(_, _) => f.write_str("unknown chain"),
+        ChainFault::JumpCycle(walk) => {
+            f.write_str("jump cycle ")?;
+            write_names(f, walk.as_slice())
+        }
+        ChainFault::TooHeavy(_) => f.write_str("chain too heavy"),
+        ChainFault::Memory => f.write_str("out of memory"),
+    }
+}
+
 impl fmt::Display for SettingsKind {
     ghost use Rattle.cd_settings.specs.Words.{settings_words};
     ghost use Rattle.std.specs.Prelude.{Some};
@@ -55,13 +82,9 @@ impl fmt::Display for SettingsKind {
             SettingsKind::UnknownOption => f.write_str("unknown option"),
             SettingsKind::WrongArgs => f.write_str("wrong arguments"),
             SettingsKind::BadPattern => f.write_str("bad pattern"),
+            SettingsKind::Chain(why) => write_chain_words(f, why),
             SettingsKind::LimitsCrossed => f.write_str("limits crossed"),
             SettingsKind::TooMany => f.write_str("too many"),
-            SettingsKind::DuplicateChain => f.write_str("duplicate chain"),
-            SettingsKind::EmptyRule => f.write_str("empty rule"),
-            SettingsKind::UnknownChain => f.write_str("unknown chain"),
-            SettingsKind::JumpCycle(names) => write!(f, "jump cycle {}", names.as_str()),
-            SettingsKind::ChainTooHeavy => f.write_str("chain too heavy"),
             SettingsKind::Memory => f.write_str("out of memory"),
         }
     }
@@ -73,13 +96,9 @@ impl TryCopy for SettingsKind {
             SettingsKind::UnknownOption => Ok(SettingsKind::UnknownOption),
             SettingsKind::WrongArgs => Ok(SettingsKind::WrongArgs),
             SettingsKind::BadPattern => Ok(SettingsKind::BadPattern),
+            SettingsKind::Chain(why) => Ok(SettingsKind::Chain(why.copy(alloc)?)),
             SettingsKind::LimitsCrossed => Ok(SettingsKind::LimitsCrossed),
             SettingsKind::TooMany => Ok(SettingsKind::TooMany),
-            SettingsKind::DuplicateChain => Ok(SettingsKind::DuplicateChain),
-            SettingsKind::EmptyRule => Ok(SettingsKind::EmptyRule),
-            SettingsKind::UnknownChain => Ok(SettingsKind::UnknownChain),
-            SettingsKind::JumpCycle(names) => Ok(SettingsKind::JumpCycle(names.copy(alloc)?)),
-            SettingsKind::ChainTooHeavy => Ok(SettingsKind::ChainTooHeavy),
             SettingsKind::Memory => Ok(SettingsKind::Memory),
         }
     }
@@ -161,8 +180,8 @@ impl From<Memory> for ItemFault {
 }
 
 /// The fault of items: a pattern that wasn't compiled is a bad one.
-pub fn told(fault: ItemFault) -> SettingsFault
-    ensures { result ≡ told fault }
+pub fn as_settings_fault(fault: ItemFault) -> SettingsFault
+    ensures { result ≡ as_settings_fault fault }
 {
     match fault {
         ItemFault::Fault(fault) => fault,

@@ -8,7 +8,7 @@ ghost use Rattle.std.specs.Prelude.{Ok, ◌≡◌};
 use crate::blocks::Blocks;
 use crate::chain_lines::accepted;
 use crate::configuration::Configuration;
-use crate::fault::{SettingsFault, SettingsKind, told};
+use crate::fault::{SettingsFault, SettingsKind, as_settings_fault};
 use crate::plugins::Listens;
 use crate::top_level::TopLevel;
 use cd_chain::ChainTable;
@@ -123,7 +123,7 @@ impl Settings {
     {
         match Configuration::of(alloc, items) {
             Ok(configuration) => configuration.finish(alloc, items.as_slice()),
-            Err(fault) => Err(told(fault)),
+            Err(fault) => Err(as_settings_fault(fault)),
         }
     }
 }

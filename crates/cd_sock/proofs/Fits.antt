@@ -1,9 +1,9 @@
 -- The lists of a command fit the types.
 use Rattle.cd_reading.specs.First.{unless, ◌>>=◌}
 use Rattle.cd_reading.specs.Gives.{Gives}
-use Rattle.cd_sock.specs.Arguments.{from_first_plain, is_keyword, last_interval, leading_options}
+use Rattle.cd_sock.specs.Arguments.{arguments_of, from_first_plain, is_keyword, last_interval, leading_options}
 use Rattle.cd_sock.specs.Faults.{line_fault, need, of_words, with_fault}
-use Rattle.cd_sock.specs.Meaning.{Blank, GetVal, ListVal, ListsFit, PutVal, Request, at_moment, command_at, get_val, has_interval, identifier, is_blank_byte, is_blank_line, is_interval, list_at, list_val, put_known, put_parts, put_val, request_of, request_of_text, request_of_words, without_return}
+use Rattle.cd_sock.specs.Meaning.{Blank, Flush, GetVal, ListVal, ListsFit, PutVal, Request, at_moment, command_at, flush, get_val, has_interval, identifier, is_blank_byte, is_blank_line, is_flush_option, is_interval, last_timeout, list_at, list_val, names_in, put_known, put_parts, put_val, request_of, request_of_text, request_of_words, without_return}
 use Rattle.cd_sock.specs.Values.{Reading, change_of, count_of, has_count, has_time, has_values, is_unknown, reading, value_at, value_of, value_texts}
 use Rattle.cd_sock.specs.declared.command.Command.{Command}
 use Rattle.cd_sock.specs.declared.fault.LineFault.TheVariants.{BadOption, BadTime, BadValue, LineTooLong, NotUtf8, UnknownCommand, UnknownType, WrongNumberOfValues}
@@ -30,11 +30,9 @@ use Rattle.std.proofs.Common.{Bool, Err, List, None, Ok, Option, Result, Some, [
 use Rattle.std.proofs.Math.Nat.{div-le_of_le-mul}
 use Rattle.std.proofs.lemmas.Bool.{and_from, and_parts, cond-false, cond-true, eq-eqb, eqb-true, le-leb, ltb-false}
 use Rattle.std.specs.List.{cons_option, filter_map, find, list_all, zip}
-use Rattle.std.specs.Prelude.{IfOk, is_some, nat_abs, nat_le, nat_lt, option_map, ◌==◌}
-use Rattle.std.specs.Prelude.{codes, unwrap_or}
+use Rattle.std.specs.Prelude.{IfOk, codes, is_some, nat_abs, nat_le, nat_lt, option_map, unwrap_or, ◌==◌}
 use Rattle.std.specs.Result.{result_ok}
-use Rattle.std.specs.Str.{bytes_eq}
-use Rattle.std.specs.Str.{is_utf8}
+use Rattle.std.specs.Str.{bytes_eq, is_utf8}
 
 -- ---- a value
 
@@ -208,16 +206,26 @@ list_val_stands types B words = by (length words == 0)
     by true = tt
     by false = tt
 
+flush_stands : (types : List DataSet) (B : Type 0) (options : List Word) → IfOk (flush options) (Stands types B)
+unfolding flush
+flush_stands types B options = then_stands (Stands types B) (names_in options) _ (each _ (names_in options) (λ names e. by (list_all is_flush_option options) names))
+  where
+    by : (b : Bool) (names : List (List ℕ))
+        → IfOk (unless ((b, BadOption) ∷ []) names >>= λ names. last_timeout options >>= λ timeout. Ok (Flush (record { plugins = arguments_of (codes "plugin") options; names = names; timeout = timeout }))) (Stands types B)
+    by true names = then_stands (Stands types B) (last_timeout options) _ (each _ (last_timeout options) (λ timeout e. tt))
+    by false names = tt
+
 words_stand : (types : List DataSet) (B : Type 0) (words : List Word) → IfOk (request_of_words types words) (Stands types B)
 unfolding request_of_words
 words_stand types B [] = tt
-words_stand types B (name ∷ more) = by (is_keyword (codes "PUTVAL") name.text) (is_keyword (codes "GETVAL") name.text) (is_keyword (codes "LISTVAL") name.text)
+words_stand types B (name ∷ more) = by (is_keyword (codes "PUTVAL") name.text) (is_keyword (codes "GETVAL") name.text) (is_keyword (codes "LISTVAL") name.text) (is_keyword (codes "FLUSH") name.text)
   where
-    by : (p g l : Bool) → IfOk (cond p (put_val types more) (cond g (get_val more) (cond l (list_val more) (Err UnknownCommand)))) (Stands types B)
-    by true g l = put_val_stands types B more
-    by false true l = get_val_stands types B more
-    by false false true = list_val_stands types B more
-    by false false false = tt
+    by : (p g l f : Bool) → IfOk (cond p (put_val types more) (cond g (get_val more) (cond l (list_val more) (cond f (flush more) (Err UnknownCommand))))) (Stands types B)
+    by true g l f = put_val_stands types B more
+    by false true l f = get_val_stands types B more
+    by false false true f = list_val_stands types B more
+    by false false false true = flush_stands types B more
+    by false false false false = tt
 
 text_stands : (types : List DataSet) (B : Type 0) (text : List ℕ) → (list_all is_blank_byte text ≡ true → B) → IfOk (request_of_text types text) (Stands types B)
 unfolding request_of_text
@@ -241,6 +249,7 @@ request_fits : (types : List DataSet) (B : Type 0) (now interval : ℕ) (request
 request_fits types B now interval Blank h = tt
 request_fits types B now interval (GetVal id) h = tt
 request_fits types B now interval ListVal h = tt
+request_fits types B now interval (Flush request) h = tt
 request_fits types B now interval (PutVal id own readings) h =
     ap (λ (rs : List Reading). list_all (fits types) (map (list_at now (unwrap_or own interval) id) rs)) h.3
     ∙ lists_fit_all types id h.0 h.1 now (unwrap_or own interval) h.2 h.4 h.5

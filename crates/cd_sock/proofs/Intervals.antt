@@ -1,5 +1,5 @@
 -- The interval of PUTVAL's options.
-use Rattle.cd_sock.specs.Arguments.{argument, interval_of, last_interval}
+use Rattle.cd_sock.specs.Arguments.{argument, interval_of, last, last_interval}
 use Rattle.cd_sock.specs.Meaning.{has_interval, interval_in, is_interval}
 use Rattle.cd_sock.specs.declared.fault.LineFault.TheVariants.{BadTime}
 use Rattle.cd_text.specs.declared.word.Word.{Word}
@@ -12,11 +12,13 @@ get_last : {X : Type 0} (xs : List X) (x : X) → slice_get (xs ++ x ∷ []) (le
 get_last [] x = refl
 get_last (y ∷ xs) x = get_last xs x
 
+pub last_of_push : {X : Type 0} (xs : List X) (x : X) → last (xs ++ x ∷ []) ≡ Some x
+last_of_push xs x =
+    let place : length (xs ++ x ∷ []) - 1 ≡ length xs = omega (arith, length-append xs (x ∷ [])) in
+    ap (slice_get (xs ++ x ∷ [])) place ∙ get_last xs x
+
 last_is : (earlier : List Word) (last : Word) → last_interval (earlier ++ last ∷ []) ≡ interval_of (argument last)
-last_is earlier last =
-    let place : length (earlier ++ last ∷ []) - 1 ≡ length earlier = omega (arith, length-append earlier (last ∷ [])) in
-    ap (λ (n : ℕ). option_and_then (λ option. interval_of (argument option)) (slice_get (earlier ++ last ∷ []) n)) place
-    ∙ ap (option_and_then (λ option. interval_of (argument option))) (get_last earlier last)
+last_is earlier last = ap (option_and_then (λ option. interval_of (argument option))) (last_of_push earlier last)
 
 given_by_all : (options earlier : List Word) (last : Word) → options ≡ earlier ++ last ∷ [] → list_all has_interval options ≡ (list_all has_interval earlier && (has_interval last && true))
 given_by_all options earlier last same = ap (list_all has_interval) same ∙ list_all-append has_interval earlier (last ∷ [])

@@ -2,7 +2,7 @@
 use Rattle.cd_reading.specs.Gives.{Gives}
 use Rattle.cd_sock.proofs.Fits.{Stands, line_stands}
 use Rattle.cd_sock.specs.Faults.{line_fault}
-use Rattle.cd_sock.specs.Meaning.{Blank, GetVal, IsSameButTimes, ListVal, PutVal, Request, at_moment, command_at, is_blank_byte, is_blank_line, list_at, meaning, request_of, request_of_text, without_return, without_times}
+use Rattle.cd_sock.specs.Meaning.{Blank, Flush, GetVal, IsSameButTimes, ListVal, PutVal, Request, at_moment, command_at, is_blank_byte, is_blank_line, list_at, meaning, request_of, request_of_text, without_return, without_times}
 use Rattle.cd_sock.specs.Values.{Reading}
 use Rattle.cd_sock.specs.declared.command.Command.TheVariants as commands
 use Rattle.cd_sock.specs.declared.command.Command.{Command}
@@ -34,6 +34,7 @@ module _ (types : List DataSet) (now interval later other : ℕ) (line : List �
           alike (PutVal id own readings) = same_lists id (unwrap_or own interval) (unwrap_or own other) own readings
           alike (GetVal id) = refl
           alike ListVal = refl
+          alike (Flush request) = refl
       by (Err g) e = absurd cc
 
 pub read_same : (types : List DataSet) (now interval : ℕ) (line : List ℕ) (result : Result Command LineFault) → Gives (λ command. command) line_fault result (meaning types now interval line)
@@ -59,6 +60,7 @@ blank_only types now interval line e = by (request_of types line) (line_stands t
     by (Ok (PutVal id own readings)) stands e = cc
     by (Ok (GetVal id)) stands e = cc
     by (Ok ListVal) stands e = cc
+    by (Ok (Flush request)) stands e = cc
     by (Err f) stands e = cc
 
 pub is_blank_only : (types : List DataSet) (now interval : ℕ) (line : List ℕ) (result : Bool) → result ≡ is_blank_line line → IsTrue result ↔ (meaning types now interval line ≡ Ok commands.Blank)

@@ -1,5 +1,6 @@
 -- Replies, printed line by line.
-use Rattle.cd_sock.specs.Replies.{flushed_line, row_line, shown, values_found, with_newline}
+use Rattle.cd_sock.specs.Replies.{flushed_line, row_line, values_found, with_newline}
+use Rattle.cd_value.specs.Rows.{as_rows}
 use Rattle.std.proofs.Common.{Bool, Bor, List, [], ap, ap₂, append_assoc, cond, length, sym, ℕ, ◌++◌, ◌∙◌, ◌∷◌, ◌≡◌}
 use Rattle.std.proofs.lemmas.Bool.{eq-eqb, ne_eqb}
 use Rattle.std.proofs.lemmas.List.Folds.{flat_map-map}
@@ -28,7 +29,7 @@ flushes successful errors =
     ∙ append_assoc (codes "0 Done: ") (decimal successful) (codes " successful, " ++ (decimal errors ++ codes " errors\n")))
 
 -- rows that are given by reference
-pub rows_shown : (rows : List (ℕ × Bor (List ℕ))) → values_found (length rows) ++ flat_map (λ (row : ℕ × Bor (List ℕ)). row_line (row.0, row.1.now)) rows ≡ values_found (length (shown rows)) ++ flat_map row_line (shown rows)
+pub rows_shown : (rows : List (ℕ × Bor (List ℕ))) → values_found (length rows) ++ flat_map (λ (row : ℕ × Bor (List ℕ)). row_line (row.0, row.1.now)) rows ≡ values_found (length (as_rows rows)) ++ flat_map row_line (as_rows rows)
 rows_shown rows =
     ap₂ (λ (n : ℕ) (body : List ℕ). values_found n ++ body) (sym (length-map rows (λ (row : ℕ × Bor (List ℕ)). (row.0, row.1.now))))
     (sym (flat_map-map row_line (λ (row : ℕ × Bor (List ℕ)). (row.0, row.1.now)) rows))

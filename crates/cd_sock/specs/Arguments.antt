@@ -1,8 +1,8 @@
 -- The words of a command.
 use Rattle.cd_text.specs.Time.{time_of}
 use Rattle.cd_text.specs.declared.word.Word.{Word}
-use Rattle.std.specs.List.{after_first, before_first, list_any, position_or_len}
-use Rattle.std.specs.Prelude.{Bool, List, None, Option, Some, drop, if◌then◌else◌, length, not, option_and_then, slice_get, ℕ, ◌-◌, ◌==◌}
+use Rattle.std.specs.List.{after_first, before_first, filter_map, list_any, position_or_len}
+use Rattle.std.specs.Prelude.{Bool, List, None, Option, Some, drop, if◌then◌else◌, length, not, option_and_then, slice_get, ℕ, ◌&&◌, ◌-◌, ◌==◌}
 use Rattle.std.specs.Result.{result_ok}
 use Rattle.std.specs.Str.{str_eq_ignore_ascii_case}
 
@@ -26,6 +26,15 @@ argument word = after_first is_equals word.text
 abbrev pub is_plain : Word → Bool
 is_plain word = not (has_key word)
 
+-- the argument of a word that is an option of a name: a word with a key, which is the name
+abbrev pub argument_of : List ℕ → Word → Option (List ℕ)
+argument_of name word =
+    if has_key word && is_keyword name (key word) then Some (argument word) else None
+
+-- the arguments of the options of a name, in order
+abbrev pub arguments_of : List ℕ → List Word → List (List ℕ)
+arguments_of name words = filter_map (argument_of name) words
+
 -- the words with a key before the first other one
 abbrev pub leading_options : List Word → List Word
 leading_options words = before_first is_plain words
@@ -41,8 +50,10 @@ above_zero time = if time == 0 then None else Some time
 abbrev pub interval_of : List ℕ → Option ℕ
 interval_of text = option_and_then above_zero (result_ok (time_of text))
 
+-- the last of a list
+abbrev pub last : {A : Type 0} → List A → Option A
+last xs = slice_get xs (length xs - 1)
+
 -- the interval of the last of some options
 abbrev pub last_interval : List Word → Option ℕ
-last_interval options =
-    option_and_then (λ option. interval_of (argument option))
-    (slice_get options (length options - 1))
+last_interval options = option_and_then (λ option. interval_of (argument option)) (last options)

@@ -1,7 +1,7 @@
 -- What a line means, as in collectd-unixsock(5).
-use Rattle.cd_reading.specs.First.{unless, ◌>>=◌}
+use Rattle.cd_reading.specs.First.{all_or_first, unless, ◌>>=◌}
 use Rattle.cd_reading.specs.Gives.{Gives}
-use Rattle.cd_sock.specs.Arguments.{argument, from_first_plain, interval_of, is_keyword, key, last_interval, leading_options}
+use Rattle.cd_sock.specs.Arguments.{argument, argument_of, arguments_of, from_first_plain, interval_of, is_keyword, key, last, last_interval, leading_options}
 use Rattle.cd_sock.specs.Faults.{line_fault, need, of_identifier, of_words, with_fault}
 use Rattle.cd_sock.specs.Values.{Reading, has_count, has_time, has_values, is_whole, reading}
 use Rattle.cd_sock.specs.declared.command.Command.TheVariants as commands
@@ -10,16 +10,19 @@ use Rattle.cd_sock.specs.declared.fault.LineFault.TheVariants.{BadOption, BadTim
 use Rattle.cd_sock.specs.declared.fault.LineFault.{LineFault}
 use Rattle.cd_sock.specs.declared.lines.TheConstants.{LINE_LIMIT}
 use Rattle.cd_text.specs.Quoting.{words_of}
+use Rattle.cd_text.specs.Time.{time_of}
 use Rattle.cd_text.specs.declared.word.Word.{Word}
 use Rattle.cd_types.specs.Types.{fits, set_named}
-use Rattle.cd_value.specs.Identifier.{Fields, read_identifier}
+use Rattle.cd_value.specs.Identifier.{Fields, name_of, read_identifier}
 use Rattle.cd_value.specs.declared.data.DataSet.{DataSet}
 use Rattle.cd_value.specs.declared.data.DataSource.{DataSource}
+use Rattle.cd_value.specs.declared.data.FlushRequest.{FlushRequest}
 use Rattle.cd_value.specs.declared.data.ValueList.{ValueList}
 use Rattle.std.specs.List.{list_all}
 use Rattle.std.specs.Option.{is_some}
 use Rattle.std.specs.Prelude.{Bool, Err, IsTrue, List, None, Ok, Option, Result, Some, [], codes, if◌then◌else◌, length, map, nat_le, ok_or, slice_index, take, unwrap_or, ℕ, ◌&&◌, ◌-◌, ◌==◌, ◌||◌, ◌∷◌, ◌≡◌}
-use Rattle.std.specs.Str.{is_utf8}
+use Rattle.std.specs.Result.{result_ok}
+use Rattle.std.specs.Str.{bytes_eq, is_utf8}
 
 -- what a line asks for, whenever it is read: nothing, or a command, in which a time may be the
 -- moment of reading and an interval the global one
@@ -28,6 +31,7 @@ pub data Request : Type 0 where
   PutVal : (id : Fields) → (interval : Option ℕ) → (readings : List Reading) → Request
   GetVal : (id : Fields) → Request
   ListVal : Request
+  Flush : (request : FlushRequest) → Request
 
 -- ---- PUTVAL
 
@@ -87,13 +91,54 @@ get_val (name ∷ more) =
 unfoldable pub list_val : List Word → Result Request LineFault
 list_val more = unless ((length more == 0, BadOption) ∷ []) ListVal
 
+-- ---- FLUSH
+
+-- an option that FLUSH has
+abbrev pub is_flush_option : Word → Bool
+is_flush_option word =
+    is_some (argument_of (codes "timeout") word) || is_some (argument_of (codes "plugin") word)
+    || is_some (argument_of (codes "identifier") word)
+
+-- the name of the identifier that a text is
+abbrev pub name_in : List ℕ → Result (List ℕ) LineFault
+name_in text = identifier text >>= λ id. Ok (name_of id)
+
+-- the names of the identifiers of options, in order
+abbrev pub names_in : List Word → Result (List (List ℕ)) LineFault
+names_in options = all_or_first (map name_in (arguments_of (codes "identifier") options))
+
+-- no timeout for `-1`, and otherwise a time
+abbrev pub timeout_in : List ℕ → Result (Option ℕ) LineFault
+timeout_in text =
+    if bytes_eq text (codes "-1") then Ok None
+    else (need BadTime (result_ok (time_of text)) >>= λ time. Ok (Some time))
+
+-- the last timeout of options, and none where they have none
+abbrev pub last_timeout : List Word → Result (Option ℕ) LineFault
+last_timeout options =
+    all_or_first (map timeout_in (arguments_of (codes "timeout") options)) >>= λ timeouts.
+    Ok (unwrap_or (last timeouts) None)
+
+-- any number of options
+unfoldable pub flush : List Word → Result Request LineFault
+flush options =
+    names_in options >>= λ names.
+    unless ((list_all is_flush_option options, BadOption) ∷ []) names >>= λ names.
+    last_timeout options >>= λ timeout.
+    Ok (Flush (record {
+      plugins = arguments_of (codes "plugin") options;
+      names = names;
+      timeout = timeout;
+    }))
+
 -- the command that the first word names
 unfoldable pub request_of_words : List DataSet → List Word → Result Request LineFault
 request_of_words types [] = Err UnknownCommand
 request_of_words types (name ∷ more) =
     if is_keyword (codes "PUTVAL") name.text then put_val types more
     else (if is_keyword (codes "GETVAL") name.text then get_val more
-    else (if is_keyword (codes "LISTVAL") name.text then list_val more else Err UnknownCommand))
+    else (if is_keyword (codes "LISTVAL") name.text then list_val more
+    else (if is_keyword (codes "FLUSH") name.text then flush more else Err UnknownCommand)))
 
 -- ---- a line
 
@@ -138,6 +183,7 @@ command_at now interval (PutVal id own readings) =
     commands.PutVal (map (list_at now (unwrap_or own interval) id) readings)
 command_at now interval (GetVal id) = commands.GetVal id
 command_at now interval ListVal = commands.ListVal
+command_at now interval (Flush request) = commands.Flush request
 
 abbrev pub at_moment : ℕ → ℕ → Result Request LineFault → Result Command LineFault
 at_moment now interval read = read >>= λ request. Ok (command_at now interval request)

@@ -8,8 +8,7 @@ use Rattle.cd_value.specs.declared.data.Rate.{Rate}
 use Rattle.cd_value.specs.declared.numbers.TheConstants.{SECOND}
 use Rattle.std.specs.Fmt.{decimal}
 use Rattle.std.specs.List.{flat_map}
-use Rattle.std.specs.Prelude.{List, None, Option, Some, [], codes, if◌then◌else◌, length, map, ℕ, ◌++◌, ◌/◌, ◌==◌, ◌∷◌}
-use denote.Ref.{Bor}
+use Rattle.std.specs.Prelude.{List, None, Option, Some, [], codes, if◌then◌else◌, length, ℕ, ◌++◌, ◌/◌, ◌==◌, ◌∷◌}
 
 -- a text and the end of its line
 abbrev pub with_newline : List ℕ → List ℕ
@@ -53,10 +52,6 @@ rate_lines (name ∷ names) (rate ∷ rates) = rate_line name (Some rate) ++ rat
 -- the whole seconds of a time, a space and the name
 abbrev pub row_line : ℕ × List ℕ → List ℕ
 row_line row = with_newline (decimal (row.0 / SECOND) ++ codes " " ++ row.1)
-
--- the rows whose names are given by reference
-abbrev pub shown : List (ℕ × Bor (List ℕ)) → List (ℕ × List ℕ)
-shown rows = map (λ row. (row.0, row.1.now)) rows
 
 -- how many flushes succeeded, and how many failed
 abbrev pub flushed_line : ℕ → ℕ → List ℕ

@@ -1,9 +1,9 @@
 //! The words of a command.
-ghost use Rattle.cd_sock.specs.Arguments.{argument, from_first_plain, has_key, interval_of, is_equals, is_keyword};
-ghost use Rattle.cd_sock.specs.Arguments.{is_plain, leading_options};
+ghost use Rattle.cd_sock.specs.Arguments.{argument, argument_of, from_first_plain, has_key, interval_of};
+ghost use Rattle.cd_sock.specs.Arguments.{is_equals, is_keyword, is_plain, leading_options};
 ghost use Rattle.cd_sock.specs.Meaning.{has_interval, interval_in, is_interval};
 ghost use Rattle.std.specs.List.{after_first, before_first, list_all, position};
-ghost use Rattle.std.specs.Prelude.{◌≡◌};
+ghost use Rattle.std.specs.Prelude.{option_copied, ◌≡◌};
 
 use crate::LineFault;
 use cd_text::{LineWord, read_time};
@@ -55,6 +55,18 @@ fn at_equals(text: &str) -> (&str, &str)
     match place_of_equals(text.as_bytes()) {
         Some(place) => (&text[..place], &text[place + 1..]),
         None => (text, ""),
+    }
+}
+
+/// The argument of a word that is an option of a name.
+pub fn argument_of<'a>(word: &'a LineWord, name: &str) -> Option<&'a str>
+    ensures { option_copied result ≡ argument_of name.now word.now }
+{
+    let (key, argument) = at_equals(word.text());
+    if has_key(word) && is_keyword(key, name) {
+        Some(argument)
+    } else {
+        None
     }
 }
 

@@ -2,7 +2,7 @@
 ghost use Rattle.cd_reading.specs.Gives.{Gives, Refuses};
 ghost use Rattle.cd_sock.specs.Faults.{line_fault};
 ghost use Rattle.cd_sock.specs.Lines.{cut};
-ghost use Rattle.cd_sock.specs.Meaning.{GivesAt, IsSameButTimes, ListsFit, at_moment, get_val, is_blank_byte};
+ghost use Rattle.cd_sock.specs.Meaning.{GivesAt, IsSameButTimes, ListsFit, at_moment, flush, get_val, is_blank_byte};
 ghost use Rattle.cd_sock.specs.Meaning.{is_blank_line, list_val, meaning, put_known, put_parts, put_val};
 ghost use Rattle.cd_sock.specs.Meaning.{request_of_text, request_of_words, without_return};
 ghost use Rattle.cd_value.specs.declared.data.DataSet.{DataSet};
@@ -10,11 +10,12 @@ ghost use Rattle.std.specs.List.{list_all};
 ghost use Rattle.std.specs.Prelude.{IfErr, IfOk, IsOkAnd, IsTrue, List, ℕ, ◌↔◌, ◌≡◌};
 
 use crate::arguments::{is_keyword, read_interval, split_options};
+use crate::flush::{are_flush_options, read_names, read_plugins, read_timeout};
 use crate::lists::read_lists;
 use crate::{LINE_LIMIT, LineFault};
 use cd_text::{LineWord, line_words};
 use cd_types::TypesDb;
-use cd_value::{DataSource, Identifier, Lists};
+use cd_value::{DataSource, FlushRequest, Identifier, Lists};
 use std::alloc::Global;
 use std::str;
 
@@ -29,6 +30,8 @@ pub enum Command {
     GetVal(Identifier),
     /// LISTVAL asks for the names of all cached values.
     ListVal,
+    /// FLUSH asks plug-ins to write out what they hold. It has no timeout where its last one is `-1`.
+    Flush(FlushRequest),
 }
 
 /// The line without a carriage return at its end.
@@ -156,6 +159,24 @@ fn list_val(arguments: &[LineWord]) -> Result<Command, LineFault>
     }
 }
 
+/// FLUSH with any number of options.
+#[tactic(auto, unfolding(crate::specs::Meaning::flush))]
+fn flush(alloc: Global, options: &[LineWord]) -> Result<Command, LineFault>
+    ensures { (now interval : ℕ) → GivesAt now interval result (flush options.now) }
+{
+    let names = read_names(alloc, options)?;
+    if !are_flush_options(options) {
+        return Err(LineFault::BadOption);
+    }
+    let timeout = read_timeout(options)?;
+    let plugins = read_plugins(alloc, options)?;
+    Ok(Command::Flush(FlushRequest {
+        plugins,
+        names,
+        timeout,
+    }))
+}
+
 /// The command that the first word names.
 #[tactic(auto, unfolding(crate::specs::Meaning::request_of_words))]
 fn read_words(
@@ -177,6 +198,8 @@ fn read_words(
         get_val(alloc, arguments, now, interval)
     } else if is_keyword(name, "LISTVAL") {
         list_val(arguments)
+    } else if is_keyword(name, "FLUSH") {
+        flush(alloc, arguments)
     } else {
         Err(LineFault::UnknownCommand)
     }

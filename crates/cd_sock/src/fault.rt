@@ -20,14 +20,15 @@ pub enum LineFault {
     UnknownCommand,
     /// PUTVAL lacks an identifier or a value, or GETVAL an identifier.
     MissingArgument,
-    /// The identifier is none.
+    /// An identifier is none.
     BadIdentifier,
     /// No type has the identifier's type name.
     UnknownType,
-    /// PUTVAL has an option other than `interval`, or GETVAL or LISTVAL a word too many.
+    /// PUTVAL has an option other than `interval`, GETVAL or LISTVAL a word too many, or FLUSH a
+    /// word that is none of its options.
     BadOption,
-    /// A time is neither `N` nor a time below `SECONDS_END` seconds, or an interval isn't such a
-    /// time or is 0.
+    /// A time is neither `N` nor a time below `SECONDS_END` seconds, an interval isn't such a time
+    /// or is 0, or a timeout is neither `-1` nor such a time.
     BadTime,
     /// A value word of PUTVAL hasn't as many values as the type has sources.
     WrongNumberOfValues,

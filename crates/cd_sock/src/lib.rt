@@ -11,6 +11,7 @@
 mod arguments;
 mod command;
 mod fault;
+mod flush;
 mod lines;
 mod lists;
 mod reply;

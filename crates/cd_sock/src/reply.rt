@@ -1,7 +1,8 @@
 //! Replies to lines.
 ghost use Rattle.cd_sock.specs.Framing.{HasPlainNames, IsFramed};
 ghost use Rattle.cd_sock.specs.Replies.{fault_text, flushed_line, rate_line, rate_lines, rate_or_nan, reply_text};
-ghost use Rattle.cd_sock.specs.Replies.{row_line, shown, values_found, with_newline};
+ghost use Rattle.cd_sock.specs.Replies.{row_line, values_found, with_newline};
+ghost use Rattle.cd_value.specs.Rows.{as_rows};
 ghost use Rattle.std.specs.Prelude.{IfOk, OnOk, length, option_copied, string_bytes, ◌++◌, ◌<◌, ◌^◌, ◌≡◌};
 
 use crate::LineFault;
@@ -23,7 +24,7 @@ pub enum Reply {
     Listed(Rows),
     /// The line was refused.
     Fault(LineFault),
-    /// So many plug-ins flushed, and so many failed to.
+    /// So many of the flushes that FLUSH asked for succeeded, and so many failed.
     Flushed(u64, u64),
     /// Nothing is cached under the name.
     NoSuchValue,
@@ -100,9 +101,9 @@ fn print_rates(alloc: Global, names: &[Text], rates: &[Rate]) -> Result<Text, Me
 /// What `print_reply` gives for `Listed`, of rows with their times, in 2^-30 s, and their names by
 /// reference: LISTVAL of collectd-unixsock(5).
 pub fn print_rows(alloc: Global, rows: &[(u64, &Text)]) -> Result<Text, Memory>
-    ensures text { IfOk result (λ text. text ≡ reply_text (Reply.Listed (shown rows.now))) }
+    ensures text { IfOk result (λ text. text ≡ reply_text (Reply.Listed (as_rows rows.now))) }
     ensures framed { IfOk result (λ text.
-        HasPlainNames (Reply.Listed (shown rows.now)) → IsFramed text) }
+        HasPlainNames (Reply.Listed (as_rows rows.now)) → IsFramed text) }
 {
     let mut text = print_count(alloc, rows.len())?;
     text.reserve(rows.len().saturating_mul(ROW_ROOM))?;

@@ -1,7 +1,7 @@
 //! Cases worked by hand from the rules.
 use crate::{Command, Line, LineCutter, LineFault, Reply, is_blank_line, print_reply};
 use cd_types::TypesDb;
-use cd_value::{Lists, Memory, Names, Rate, Rates, Rows, SECOND, Text};
+use cd_value::{FlushRequest, Lists, Memory, Names, Rate, Rates, Rows, SECOND, Text};
 use std::alloc::Global;
 use std::test::Fail;
 
@@ -20,6 +20,23 @@ fn shown_lists(alloc: Global, lists: &Lists) -> Result<String, Memory> {
     Ok(text)
 }
 
+/// Adds each name behind a word.
+fn push_each(text: &mut String, word: &str, names: &Names) -> Result<(), Memory> {
+    for name in names.as_slice() {
+        write!(text, " {word} {}", name.as_str())?;
+    }
+    Ok(())
+}
+
+/// The timeout in seconds, the plug-ins and the names of a request.
+fn shown_flush(alloc: Global, request: &FlushRequest) -> Result<String, Memory> {
+    let timeout = request.timeout.map(|timeout| timeout / SECOND);
+    let mut text = format!(in alloc; "flush {timeout:?}")?;
+    push_each(&mut text, "plugin", &request.plugins)?;
+    push_each(&mut text, "name", &request.names)?;
+    Ok(text)
+}
+
 /// What a line is read as at 2,000,000,000 s, with an interval of 20 s.
 fn shown(alloc: Global, types: &TypesDb, line: &[u8]) -> Result<String, Memory> {
     match Command::read(alloc, line, types, 2_000_000_000 * SECOND, 20 * SECOND) {
@@ -30,6 +47,7 @@ fn shown(alloc: Global, types: &TypesDb, line: &[u8]) -> Result<String, Memory> 
             Ok(format!(in alloc; "get {}", name.as_str())?)
         }
         Ok(Command::ListVal) => Ok(String::from_str(alloc, "list")?),
+        Ok(Command::Flush(request)) => shown_flush(alloc, &request),
         Err(fault) => Ok(format!(in alloc; "{fault:?}")?),
     }
 }
@@ -42,18 +60,24 @@ fn gives_the_first_fault(rt: HostRuntime) -> Result<(), Fail> {
         ("FOO \"h", "UnterminatedQuote"),
         ("FOO", "UnknownCommand"),
         ("\"\"", "UnknownCommand"),
-        ("FLUSH timeout=x", "UnknownCommand"),
+        ("FLUSHES", "UnknownCommand"),
         ("PUTNOTIF", "UnknownCommand"),
         ("PUTVAL", "MissingArgument"),
         ("PUTVAL h foo=1 interval=0", "MissingArgument"),
         ("GETVAL", "MissingArgument"),
         ("PUTVAL h foo=1 x:1", "BadIdentifier"),
         ("GETVAL h x", "BadIdentifier"),
+        (
+            "FLUSH timeout=x foo identifier=h/p/t identifier=h",
+            "BadIdentifier",
+        ),
         ("PUTVAL h/p/none foo=1 x:1", "UnknownType"),
         ("PUTVAL h/p/derive interval=0 foo=1 x:1", "BadOption"),
         ("PUTVAL h/p/derive =1 x:1", "BadOption"),
         ("GETVAL h/p/derive x", "BadOption"),
         ("LISTVAL x", "BadOption"),
+        ("FLUSH timeout=x foo=1", "BadOption"),
+        ("FLUSH plugin=csv timeout", "BadOption"),
         ("PUTVAL h/p/derive 1:1:1 2:x y:1", "BadTime"),
         ("PUTVAL h/p/derive interval=0 1:1:1", "BadTime"),
         ("PUTVAL h/p/derive interval=0 interval=5 1:1", "BadTime"),
@@ -61,6 +85,8 @@ fn gives_the_first_fault(rt: HostRuntime) -> Result<(), Fail> {
         ("PUTVAL h/p/derive n:1", "BadTime"),
         ("PUTVAL h/p/derive 1:1 interval=5", "BadTime"),
         ("PUTVAL h/p/gauge 17179869184:1", "BadTime"),
+        ("FLUSH timeout=N timeout=1", "BadTime"),
+        ("FLUSH timeout=-2", "BadTime"),
         ("PUTVAL h/p/derive 1:x 2:1:1", "WrongNumberOfValues"),
         ("PUTVAL h/p/derive 1", "WrongNumberOfValues"),
         ("PUTVAL h/p/derive 1:1 2:x", "BadValue"),
@@ -85,6 +111,20 @@ fn reads_commands(rt: HostRuntime) -> Result<(), Fail> {
         (" listval\t", "list"),
         ("getval h/p-0/derive-x", "get h/p-0/derive-x"),
         ("GETVAL \"h x\"/p/\"derive\"", "get h x/p/derive"),
+        ("FLUSH", "flush None"),
+        (
+            "FLUSH plugin=rrdtool identifier=localhost/df/df-root identifier=localhost/df/df-var",
+            "flush None plugin rrdtool name localhost/df/df-root name localhost/df/df-var",
+        ),
+        (
+            "FLUSH plugin=csv plugin=none identifier=h/df/df-root timeout=10",
+            "flush Some(10) plugin csv plugin none name h/df/df-root",
+        ),
+        (
+            "flush TIMEOUT=5 PlugIn=\"a b\" timeout=-1 IDENTIFIER=h/p-/t- plugin= plugin=\"a b\"\r",
+            "flush None plugin a b plugin  plugin a b name h/p/t",
+        ),
+        ("FLUSH timeout=-1 timeout=7.5", "flush Some(7)"),
         (
             "PUTVAL h/p/derive interval=10 1000:5",
             "1000 10 h/p/derive Derive(5);",

@@ -1,5 +1,5 @@
 -- The rules of a run allow one history alone.
-use Rattle.cd_daemon.specs.Answers.{accept_answer, handle_answer, is_idle, next_call, query_answer, ready}
+use Rattle.cd_daemon.specs.Answers.{accept_answer, flush_close_answer, flush_open_answer, handle_answer, is_idle, next_call, query_answer, ready}
 use Rattle.cd_daemon.specs.declared.Opening.{Opening}
 use Rattle.cd_history.specs.History.{History, handles, kept, ◌▸◌}
 use Rattle.cd_history.specs.Registrations.{live}
@@ -10,9 +10,10 @@ use Rattle.cd_history.specs.declared.given.Given.{Given}
 use Rattle.cd_registry.specs.declared.calls.Answer.{Answer}
 use Rattle.cd_registry.specs.declared.calls.Call.{Call}
 use Rattle.cd_sock.specs.declared.command.Command.TheVariants as command
-use Rattle.cd_transcript.specs.LineRuns.{IsAsked, IsLineRun, OnShelf, Opens, ServesLine, ServesLines, Works, WorksUntilIdle, all_handed_out, blank, called, got, handled, listed, none, none as opened_all, nothing, one_more, plug_in, put, refused}
+use Rattle.cd_transcript.specs.LineRuns.{IsAsked, IsLineRun, Loaded, Opens, ServesLine, ServesLines, Works, WorksUntilIdle, all_handed_out, blank, called, flushed, got, handled, listed, none, none as opened_all, nothing, one_more, plug_in, put, refused}
 use Rattle.cd_transcript.specs.Transcripts.{Said}
 use Rattle.cd_value.specs.Identifier.{Fields, name_of}
+use Rattle.cd_value.specs.declared.data.FlushRequest.{FlushRequest}
 use Rattle.cd_value.specs.declared.data.ValueList.{ValueList}
 use Rattle.std.proofs.Common.{Bool, IsTrue, List, None, Ok, Option, Some, [], ap, append_assoc, arith, false, is_some, length, map, nat_le, not, refl, subst, sym, true, ℕ, ◌&&◌, ◌++◌, ◌<◌, ◌∙◌, ◌∷◌, ◌≡◌, ◌≤◌}
 use Rattle.std.proofs.lemmas.Bool.{leb-true}
@@ -30,7 +31,7 @@ pub record Same (given given' : List Given) (Q Q' : History) : Type 0 where
 
 -- ---- the opening
 
-opens_alike : {shelf : List OnShelf} {P Q Q' : History} {given given' : List Given} → Opens shelf P given Q → Opens shelf P given' Q' → Same given given' Q Q'
+opens_alike : {loaded : List Loaded} {P Q Q' : History} {given given' : List Given} → Opens loaded P given Q → Opens loaded P given' Q' → Same given given' Q Q'
 opens_alike opened_all opened_all = record { gifts = refl; history = refl }
 opens_alike (plug_in o) (plug_in o') = opens_alike o o'
 
@@ -143,11 +144,13 @@ module _ {Line : Type 0} (K : Opening) (says : Line → ℕ → Said) where
   line_alike more more' (blank a) (put b c d v) e = absurd (cc)
   line_alike more more' (blank a) (got b v) e = absurd (cc)
   line_alike more more' (blank a) (listed b v) e = absurd (cc)
+  line_alike more more' (blank a) (flushed b o v) e = absurd (cc)
   line_alike more more' (refused a w) (blank b) e = absurd (cc)
   line_alike more more' (refused {now = n} a w) (refused {now = n'} b v) e = work_alike K n n' more more' w v e
   line_alike more more' (refused a w) (put b c d v) e = absurd (cc)
   line_alike more more' (refused a w) (got b v) e = absurd (cc)
   line_alike more more' (refused a w) (listed b v) e = absurd (cc)
+  line_alike more more' (refused a w) (flushed b o v) e = absurd (cc)
   line_alike more more' (put a c d w) (blank b) e = absurd (cc)
   line_alike more more' (put a c d w) (refused b v) e = absurd (cc)
   line_alike {l = l} {P = P} {Q' = Q'} more more' (put {now = n} {lists = lists} {words = ws} {given = g} a c d w) (put {now = n'} {lists = lists'} {words = ws'} {given = g'} a' c' d' w') e =
@@ -158,9 +161,9 @@ module _ {Line : Type 0} (K : Opening) (says : Line → ℕ → Said) where
       let many : length ws ≡ length ws' = d ∙ ap length (sym same_lists) ∙ sym d' in
       let tails : (map Word ws ++ g) ++ more ≡ (map Word ws' ++ g') ++ more' = cc in
       let both = words_alike ws ws' (g ++ more) (g' ++ more') many (sym (append_assoc (map Word ws) g more) ∙ tails ∙ append_assoc (map Word ws') g' more') in
-      let N : ℕ → Type 0 = λ x. WorksUntilIdle K IsAsked (P ▸ entry.Accept 0 lists' ws' x (accept_answer K P lists' ws')) g' Q' in
-      let L : List ValueList → Type 0 = λ x. WorksUntilIdle K IsAsked (P ▸ entry.Accept 0 x ws' n (accept_answer K P x ws')) g' Q' in
-      let W : List ℕ → Type 0 = λ x. WorksUntilIdle K IsAsked (P ▸ entry.Accept 0 lists x n (accept_answer K P lists x)) g' Q' in
+      let N : ℕ → Type 0 = λ x. WorksUntilIdle K IsAsked (P ▸ entry.Accept 0 lists' ws' x (accept_answer K P ws')) g' Q' in
+      let L : List ValueList → Type 0 = λ x. WorksUntilIdle K IsAsked (P ▸ entry.Accept 0 x ws' n (accept_answer K P ws')) g' Q' in
+      let W : List ℕ → Type 0 = λ x. WorksUntilIdle K IsAsked (P ▸ entry.Accept 0 lists x n (accept_answer K P x)) g' Q' in
       let same = works_alike K more more' w (subst W (sym both.0) (subst L same_lists (subst N same_now w'))) both.1 in
       record {
         gifts = ap (λ (x : ℕ). Now x ∷ map Word ws ++ g) (sym same_now) ∙ ap (λ (xs : List ℕ). Now n' ∷ map Word xs ++ g) both.0 ∙ ap (λ (xs : List Given). Now n' ∷ map Word ws' ++ xs) same.gifts;
@@ -168,6 +171,7 @@ module _ {Line : Type 0} (K : Opening) (says : Line → ℕ → Said) where
       }
   line_alike more more' (put a c d w) (got b v) e = absurd (cc)
   line_alike more more' (put a c d w) (listed b v) e = absurd (cc)
+  line_alike more more' (put a c d w) (flushed b o v) e = absurd (cc)
   line_alike more more' (got a w) (blank b) e = absurd (cc)
   line_alike more more' (got a w) (refused b v) e = absurd (cc)
   line_alike more more' (got a w) (put b c d v) e = absurd (cc)
@@ -176,11 +180,29 @@ module _ {Line : Type 0} (K : Opening) (says : Line → ℕ → Said) where
       let I : Fields → Type 0 = λ x. WorksUntilIdle K IsAsked (P ▸ entry.Query 0 (Some (name_of x)) (query_answer K P (Some (name_of x)))) g' Q' in
       work_alike K n n' more more' w (subst I same_id v) e
   line_alike more more' (got a w) (listed b v) e = absurd (cc)
+  line_alike more more' (got a w) (flushed b o v) e = absurd (cc)
   line_alike more more' (listed a w) (blank b) e = absurd (cc)
   line_alike more more' (listed a w) (refused b v) e = absurd (cc)
   line_alike more more' (listed a w) (put b c d v) e = absurd (cc)
   line_alike more more' (listed a w) (got b v) e = absurd (cc)
   line_alike more more' (listed {now = n} a w) (listed {now = n'} b v) e = work_alike K n n' more more' w v e
+  line_alike more more' (listed a w) (flushed b o v) e = absurd (cc)
+  line_alike more more' (flushed a o w) (blank b) e = absurd (cc)
+  line_alike more more' (flushed a o w) (refused b v) e = absurd (cc)
+  line_alike more more' (flushed a o w) (put b c d v) e = absurd (cc)
+  line_alike more more' (flushed a o w) (got b v) e = absurd (cc)
+  line_alike more more' (flushed a o w) (listed b v) e = absurd (cc)
+  line_alike {P = P} more more' (flushed {Q = Q} {now = n} {number = k} {request = request} a o w) (flushed {Q = Q'} {now = n'} {number = k'} {request = request'} {given = g'} a' o' w') e =
+      let same_request : request' ≡ request = cc in
+      let same_number : k ≡ k' = cc in
+      let R : FlushRequest → Type 0 = λ x. WorksUntilIdle K IsAsked (P ▸ entry.FlushOpen 0 x (flush_open_answer P)) g' Q' in
+      let same = work_alike K n n' more more' w (subst R same_request w') e in
+      record {
+        gifts = same.gifts;
+        history =
+            ap (λ (h : History). h ▸ entry.FlushClose 0 k (flush_close_answer h k)) same.history
+            ∙ ap (λ (x : ℕ). Q' ▸ entry.FlushClose 0 x (flush_close_answer Q' x)) same_number;
+      }
 
   -- ---- lines, from the first on
 
@@ -209,8 +231,8 @@ module _ {Line : Type 0} (K : Opening) (says : Line → ℕ → Said) where
       let rest = each_alike more more' r (subst E (sym one.history) r') tail in
       record { gifts = ap (λ (x : List Given). x ++ g) one.gifts ∙ ap (λ (x : List Given). f' ++ x) rest.gifts; history = rest.history }
 
-  -- the shelf, the lines and what was given make one history
-  pub one_history : {shelf : List OnShelf} {lines : List Line} {given : List Given} {H H' : History} → IsLineRun K says shelf lines given H → IsLineRun K says shelf lines given H' → H ≡ H'
+  -- the loaded plug-ins, the lines and what was given make one history
+  pub one_history : {loaded : List Loaded} {lines : List Line} {given : List Given} {H H' : History} → IsLineRun K says loaded lines given H → IsLineRun K says loaded lines given H' → H ≡ H'
   one_history {lines = lines} r r' =
       let first = opens_alike r.opens r'.opens in
       let S : History → Type 0 = λ h. ServesLines K says lines h r'.given_lines r'.served in

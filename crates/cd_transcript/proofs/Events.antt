@@ -1,8 +1,9 @@
 -- Which events of lines a run's parts leave, and what a line that was served writes.
 use Rattle.cd_daemon.specs.declared.Opening.{Opening}
 use Rattle.cd_history.specs.History.{Event, History, ◌▸◌}
-use Rattle.cd_history.specs.Registrations.{Registration}
 use Rattle.cd_history.specs.declared.entry.Entry.TheVariants as entry
+use Rattle.cd_history.specs.declared.entry.FlushEnd.TheVariants as ends
+use Rattle.cd_history.specs.declared.entry.FlushEnd.{FlushEnd}
 use Rattle.cd_history.specs.declared.entry.Found.{Found}
 use Rattle.cd_history.specs.declared.entry.Stopping.{Stopping}
 use Rattle.cd_history.specs.declared.given.Given.{Given}
@@ -11,12 +12,13 @@ use Rattle.cd_sock.specs.declared.command.Command.TheVariants as command
 use Rattle.cd_sock.specs.declared.fault.LineFault.{LineFault}
 use Rattle.cd_sock.specs.declared.reply.Reply.TheVariants as reply
 use Rattle.cd_transcript.proofs.Transcripts.{as_text, joined}
-use Rattle.cd_transcript.specs.LineRuns.{OnShelf, Opens, Works, all_handed_out, called, handled, none, nothing as no_work, plug_in}
-use Rattle.cd_transcript.specs.Transcripts.{IsTranscript, Said, blank, found_reply, got, is_of_a_line, listed, nothing, of_lines, offered_reply, put, refused}
+use Rattle.cd_transcript.specs.LineRuns.{Loaded, Opens, Works, called, handled, none, nothing as no_work, plug_in}
+use Rattle.cd_transcript.specs.Transcripts.{IsTranscript, Said, blank, flushed, found_reply, got, is_of_a_line, listed, nothing, of_lines, offered_reply, put, refused}
 use Rattle.cd_value.specs.Identifier.{Fields, name_of}
+use Rattle.cd_value.specs.declared.data.FlushRequest.{FlushRequest}
 use Rattle.cd_value.specs.declared.data.Offered.{Offered}
 use Rattle.cd_value.specs.declared.data.ValueList.{ValueList}
-use Rattle.std.proofs.Common.{Bool, Err, List, None, Ok, Result, Some, [], false, refl, subst, sym, true, ℕ, ◌++◌, ◌∙◌, ◌∷◌, ◌≡◌}
+use Rattle.std.proofs.Common.{Bool, Err, List, None, Ok, Result, Some, [], ap, append_assoc, false, refl, subst, sym, true, ℕ, ◌++◌, ◌∙◌, ◌∷◌, ◌≡◌}
 use Rattle.std.proofs.lemmas.List.{append-nil, reverse-append}
 use Rattle.std.specs.List.{filter}
 
@@ -26,13 +28,9 @@ works-of_lines no_work = refl
 works-of_lines (called w is next) = works-of_lines w
 works-of_lines (handled w is within at) = works-of_lines w
 
-pub opens-of_lines : {shelf : List OnShelf} {P Q : History} {given : List Given} → Opens shelf P given Q → of_lines Q ≡ of_lines P
+pub opens-of_lines : {loaded : List Loaded} {P Q : History} {given : List Given} → Opens loaded P given Q → of_lines Q ≡ of_lines P
 opens-of_lines none = refl
 opens-of_lines (plug_in opens) = opens-of_lines opens
-
-pub handed_out-of_lines : (K : Opening) (gs : List Registration) (P : History) → of_lines (all_handed_out K gs P) ≡ of_lines P
-handed_out-of_lines K [] P = refl
-handed_out-of_lines K (g ∷ gs) P = handed_out-of_lines K gs _
 
 one_event : (Q : History) (e : Event) → of_lines (Q ▸ e) ≡ of_lines Q ++ of_lines ([] ▸ e)
 one_event Q e = by (is_of_a_line e) refl
@@ -81,6 +79,25 @@ module _ {Line : Type 0} (says : Line → ℕ → Said) where
       more = works-of_lines w ∙ one_event Q (entry.Query a None answer);
       transcript = alone (listed is nothing);
     }
+
+    -- a flush that was begun, and ended with its counts after the work
+    pub flushed_writes : (a b number successful errors : ℕ) (request : FlushRequest) (opened : Result ℕ Stopping) (ended : FlushEnd)
+        → opened ≡ Ok number → ended ≡ ends.Counts successful errors → says l 0 ≡ Ok (command.Flush request)
+        → Works K Moment (Q ▸ entry.FlushOpen a request opened) given R
+        → Writes l Q (R ▸ entry.FlushClose b number ended) (reply_text (reply.Flushed successful errors))
+    flushed_writes a b number successful errors request opened ended begun counts is w =
+        let first : of_lines R ≡ of_lines Q ++ entry.FlushOpen a request (Ok number) ∷ [] =
+        works-of_lines w ∙ one_event Q (entry.FlushOpen a request opened) ∙ ap (λ (reply : Result ℕ Stopping). of_lines Q ++ entry.FlushOpen a request reply ∷ []) begun in
+        let last : Event = entry.FlushClose b number (ends.Counts successful errors) in
+        record {
+          events = entry.FlushOpen a request (Ok number) ∷ last ∷ [];
+          more =
+              ap (λ (reply : FlushEnd). of_lines (R ▸ entry.FlushClose b number reply)) counts
+              ∙ one_event R last
+              ∙ ap (λ (events : List Event). events ++ last ∷ []) first
+              ∙ append_assoc (of_lines Q) (entry.FlushOpen a request (Ok number) ∷ []) (last ∷ []);
+          transcript = alone (flushed is nothing);
+        }
 
   pub written_more : {lines : List Line} {l : Line} {Q R : History} {text more : List ℕ} → IsTranscript says lines (of_lines Q) text → Writes l Q R more
       → IsTranscript says (lines ++ l ∷ []) (of_lines R) (text ++ more)

@@ -2,6 +2,7 @@ pub mod Transcripts
 pub mod Events
 pub mod Determined
 pub mod Fronts
-pub mod CallsInOrder
-mod Steady
+pub mod Kept
+pub mod Ends
+pub mod Steady
 mod WorkedTranscripts

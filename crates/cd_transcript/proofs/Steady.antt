@@ -16,6 +16,7 @@ at_zero lists (Ok command.Blank) h = absurd (cc)
 at_zero lists (Ok (command.PutVal others)) h = (others, refl)
 at_zero lists (Ok (command.GetVal id)) h = absurd (cc)
 at_zero lists (Ok command.ListVal) h = absurd (cc)
+at_zero lists (Ok (command.Flush request)) h = absurd (cc)
 at_zero lists (Err fault) h = absurd h
 
 steady : (K : Opening) → IsSteady (line_says K)

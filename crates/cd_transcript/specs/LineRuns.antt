@@ -1,6 +1,6 @@
 -- The history of a run over lines on one thread, by the rules of its making: which events come, and what each took of
 -- what the clock, the dice and the plug-ins gave.
-use Rattle.cd_daemon.specs.Answers.{accept_answer, close_answer, handle_answer, is_idle, next_call, query_answer, ready, register_answer, retire_answer}
+use Rattle.cd_daemon.specs.Answers.{accept_answer, close_answer, flush_close_answer, flush_open_answer, handle_answer, is_idle, next_call, query_answer, ready, register_answer, retire_answer}
 use Rattle.cd_daemon.specs.declared.Opening.{Opening}
 use Rattle.cd_history.specs.History.{Event, History, handles, kept, ◌▸◌}
 use Rattle.cd_history.specs.Leases.{answered_as}
@@ -19,6 +19,7 @@ use Rattle.cd_sock.specs.declared.command.Command.TheVariants as command
 use Rattle.cd_sock.specs.declared.fault.LineFault.{LineFault}
 use Rattle.cd_transcript.specs.Transcripts.{Said}
 use Rattle.cd_value.specs.Identifier.{Fields, name_of}
+use Rattle.cd_value.specs.declared.data.FlushRequest.{FlushRequest}
 use Rattle.cd_value.specs.declared.data.ValueList.{ValueList}
 use Rattle.std.specs.Prelude.{Err, IsTrue, List, None, Ok, Some, [], length, map, ℕ, ◌++◌, ◌<◌, ◌∷◌, ◌≡◌}
 
@@ -28,16 +29,23 @@ pub record OnShelf : Type 0 where
   pub kinds : Kinds
   pub tells : PlugTells
 
--- a plug-in of a shelf is registered, with an empty configuration
-abbrev pub registers : History → OnShelf → Event
-registers P plug = entry.Register 0 plug.name (joining.Plug plug.kinds [] plug.tells) (register_answer P plug.name)
+-- a plug-in of a shelf that is loaded, with its block of the configuration in canonical text
+pub record Loaded : Type 0 where
+  pub plug : OnShelf
+  pub config : List ℕ
 
--- The opening of a run from P, which leaves Q: each plug-in of the shelf is registered, in order. That takes nothing of
--- what was given.
-pub data Opens : List OnShelf → History → List Given → History → Type 0 where
+-- it is registered
+abbrev pub registers : History → Loaded → Event
+registers P loaded =
+    entry.Register 0 loaded.plug.name (joining.Plug loaded.plug.kinds loaded.config loaded.plug.tells)
+    (register_answer P loaded.plug.name)
+
+-- The opening of a run from P, which leaves Q: each loaded plug-in is registered, in order. That takes nothing of what was
+-- given.
+pub data Opens : List Loaded → History → List Given → History → Type 0 where
   none : {P : History} → Opens [] P [] P
-  plug_in : {plug : OnShelf} {plugs : List OnShelf} {P Q : History} {given : List Given}
-      → Opens plugs (P ▸ registers P plug) given Q → Opens (plug ∷ plugs) P given Q
+  plug_in : {loaded : Loaded} {more : List Loaded} {P Q : History} {given : List Given}
+      → Opens more (P ▸ registers P loaded) given Q → Opens (loaded ∷ more) P given Q
 
 -- Work from P, as far as it has come to Q. A call that waits is taken and answered before a list is handled. At which
 -- moment a list is handled, and what that took of what was given, is as `Moment` says.
@@ -62,15 +70,16 @@ IsAsked now took = took ≡ Now now ∷ []
 
 module _ {Line : Type 0} (K : Opening) (says : Line → ℕ → Said) where
   -- A line was served after P, which leaves Q. One that isn't blank asks a moment. One that offers lists then asks a
-  -- word for each, and they are accepted at that moment; a query has its event. Then work goes on until it is idle,
-  -- after a line that was refused too.
+  -- word for each, and they are accepted at that moment; a query and the beginning of a flush have their events. Then
+  -- work goes on until it is idle, after a line that was refused too. A flush ends after that. No line comes after a
+  -- stop, so no flush is refused.
   pub data ServesLine : Line → History → List Given → History → Type 0 where
     blank : {l : Line} {P : History} → says l 0 ≡ Ok command.Blank → ServesLine l P [] P
     refused : {l : Line} {P Q : History} {now : ℕ} {fault : LineFault} {given : List Given}
         → says l 0 ≡ Err fault → WorksUntilIdle K IsAsked P given Q → ServesLine l P (Now now ∷ given) Q
     put : {l : Line} {P Q : History} {now : ℕ} {at_zero lists : List ValueList} {words : List ℕ} {given : List Given}
         → says l 0 ≡ Ok (command.PutVal at_zero) → says l now ≡ Ok (command.PutVal lists) → length words ≡ length lists
-        → WorksUntilIdle K IsAsked (P ▸ entry.Accept 0 lists words now (accept_answer K P lists words)) given Q
+        → WorksUntilIdle K IsAsked (P ▸ entry.Accept 0 lists words now (accept_answer K P words)) given Q
         → ServesLine l P (Now now ∷ map Word words ++ given) Q
     got : {l : Line} {P Q : History} {now : ℕ} {id : Fields} {given : List Given}
         → says l 0 ≡ Ok (command.GetVal id)
@@ -81,6 +90,10 @@ module _ {Line : Type 0} (K : Opening) (says : Line → ℕ → Said) where
         → says l 0 ≡ Ok command.ListVal
         → WorksUntilIdle K IsAsked (P ▸ entry.Query 0 None (query_answer K P None)) given Q
         → ServesLine l P (Now now ∷ given) Q
+    flushed : {l : Line} {P Q : History} {now number : ℕ} {request : FlushRequest} {given : List Given}
+        → says l 0 ≡ Ok (command.Flush request) → flush_open_answer P ≡ Ok number
+        → WorksUntilIdle K IsAsked (P ▸ entry.FlushOpen 0 request (flush_open_answer P)) given Q
+        → ServesLine l P (Now now ∷ given) (Q ▸ entry.FlushClose 0 number (flush_close_answer Q number))
 
   -- these lines were served after P, in order
   pub data ServesLines : List Line → History → List Given → History → Type 0 where
@@ -98,14 +111,14 @@ all_handed_out K (g ∷ gs) P =
 -- The history of a run over these lines: it opens, the lines are served, and at the end of the input the daemon stops,
 -- works until it is idle, and hands all objects out. Each of the first three has its own share of what was given.
 pub record IsLineRun {Line : Type 0} (K : Opening) (says : Line → ℕ → Said)
-    (shelf : List OnShelf) (lines : List Line) (given : List Given) (H : History) : Type 0 where
+    (loaded : List Loaded) (lines : List Line) (given : List Given) (H : History) : Type 0 where
   pub opened : History
   pub served : History
   pub stopped : History
   pub given_first : List Given
   pub given_lines : List Given
   pub given_last : List Given
-  pub opens : Opens shelf [] given_first opened
+  pub opens : Opens loaded [] given_first opened
   pub serves : ServesLines K says lines opened given_lines served
   pub stops : WorksUntilIdle K IsAsked (served ▸ entry.Stop 0 why.ControlEnd) given_last stopped
   pub hands_out : H ≡ all_handed_out K (live stopped) stopped

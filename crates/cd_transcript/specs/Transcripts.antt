@@ -3,6 +3,8 @@ use Rattle.cd_daemon.specs.declared.Opening.{Opening}
 use Rattle.cd_history.specs.History.{Event, History}
 use Rattle.cd_history.specs.Order.{history_of}
 use Rattle.cd_history.specs.declared.entry.Entry.TheVariants as entry
+use Rattle.cd_history.specs.declared.entry.FlushEnd.TheVariants as ends
+use Rattle.cd_history.specs.declared.entry.FlushEnd.{FlushEnd}
 use Rattle.cd_history.specs.declared.entry.Found.TheVariants as found
 use Rattle.cd_history.specs.declared.entry.Found.{Found}
 use Rattle.cd_history.specs.declared.entry.Stopping.{Stopping}
@@ -16,10 +18,11 @@ use Rattle.cd_sock.specs.declared.fault.LineFault.{LineFault}
 use Rattle.cd_sock.specs.declared.reply.Reply.TheVariants as reply
 use Rattle.cd_sock.specs.declared.reply.Reply.{Reply}
 use Rattle.cd_value.specs.Identifier.{Fields, name_of}
+use Rattle.cd_value.specs.declared.data.FlushRequest.{FlushRequest}
 use Rattle.cd_value.specs.declared.data.Offered.{Offered}
 use Rattle.cd_value.specs.declared.data.ValueList.{ValueList}
 use Rattle.std.specs.List.{filter}
-use Rattle.std.specs.Prelude.{Bool, Err, List, None, Ok, Result, Some, [], false, true, ℕ, ◌++◌, ◌∷◌, ◌≡◌}
+use Rattle.std.specs.Prelude.{Bool, Err, List, None, Ok, Result, Some, [], false, not, true, ℕ, ◌++◌, ◌∷◌, ◌≡◌}
 
 -- what a line says: a command, or why it is refused
 abbrev pub Said : Type 0
@@ -29,6 +32,12 @@ Said = Result Command LineFault
 abbrev pub line_says : Opening → Cut → ℕ → Said
 line_says K None now = Err LineTooLong
 line_says K (Some line) now = meaning K.types now K.globals.interval line
+
+-- a flush was asked for its counts before all its calls were answered
+abbrev pub is_not_yet : FlushEnd → Bool
+is_not_yet (ends.NotYet calls) = true
+is_not_yet (ends.Counts successful errors) = false
+is_not_yet ends.NoSuchFlush = false
 
 -- the events that lines ask for
 abbrev pub is_of_a_line : Event → Bool
@@ -40,8 +49,8 @@ is_of_a_line (entry.Handle a now reply) = false
 is_of_a_line (entry.Notify a note reply) = false
 is_of_a_line (entry.Tick a now reply) = false
 is_of_a_line (entry.Query a name reply) = true
-is_of_a_line (entry.FlushOpen a request reply) = false
-is_of_a_line (entry.FlushClose a number reply) = false
+is_of_a_line (entry.FlushOpen a request reply) = true
+is_of_a_line (entry.FlushClose a number reply) = not (is_not_yet reply)
 is_of_a_line (entry.Take a reg call) = false
 is_of_a_line (entry.Done a reg answer) = false
 is_of_a_line (entry.ReadDue a now reply) = false
@@ -64,16 +73,14 @@ found_reply (found.Got names rates) = reply.Got names rates
 found_reply (found.Listed rows) = reply.Listed rows
 found_reply found.NoSuchValue = reply.NoSuchValue
 
--- What is written for lines, in order, where each asks for the event that it uses, in order. A blank line writes
+-- What is written for lines, in order, where each asks for the events that it uses, in order. A blank line writes
 -- nothing and a refused one its fault, and neither uses an event; whether a line is so doesn't depend on the moment,
 -- so it is read at 0. PUTVAL uses the acceptance of the lists that it has at that moment, GETVAL the query of its
--- name, and LISTVAL that of all; what is written is the event's reply. A look is passed over, and no other event is
--- left.
+-- name, LISTVAL that of all, and FLUSH the beginning of its flush with, unless that is refused, the counts of the flush
+-- of that number; what is written is the event's reply. No other event is left.
 module _ {Line : Type 0} (says : Line → ℕ → Said) where
   pub data IsTranscript : List Line → List Event → List ℕ → Type 0 where
     nothing : IsTranscript [] [] []
-    looked : {lines : List Line} {events : List Event} {text : List ℕ} {a : ℕ} {idle : Bool}
-        → IsTranscript lines events text → IsTranscript lines (entry.Look a idle ∷ events) text
     blank : {l : Line} {lines : List Line} {events : List Event} {text : List ℕ}
         → says l 0 ≡ Ok command.Blank → IsTranscript lines events text → IsTranscript (l ∷ lines) events text
     refused : {l : Line} {lines : List Line} {events : List Event} {text : List ℕ} {fault : LineFault}
@@ -91,3 +98,14 @@ module _ {Line : Type 0} (says : Line → ℕ → Said) where
     listed : {l : Line} {lines : List Line} {events : List Event} {text : List ℕ} {a : ℕ} {answer : Found}
         → says l 0 ≡ Ok command.ListVal → IsTranscript lines events text
         → IsTranscript (l ∷ lines) (entry.Query a None answer ∷ events) (reply_text (found_reply answer) ++ text)
+    flushed : {l : Line} {lines : List Line} {events : List Event} {text : List ℕ}
+        {a b number successful errors : ℕ} {request : FlushRequest}
+        → says l 0 ≡ Ok (command.Flush request) → IsTranscript lines events text
+        → IsTranscript (l ∷ lines)
+        (entry.FlushOpen a request (Ok number) ∷ entry.FlushClose b number (ends.Counts successful errors) ∷ events)
+        (reply_text (reply.Flushed successful errors) ++ text)
+    flush_refused : {l : Line} {lines : List Line} {events : List Event} {text : List ℕ}
+        {a : ℕ} {request : FlushRequest} {stopping : Stopping}
+        → says l 0 ≡ Ok (command.Flush request) → IsTranscript lines events text
+        → IsTranscript (l ∷ lines) (entry.FlushOpen a request (Err stopping) ∷ events)
+        (reply_text reply.Stopping ++ text)

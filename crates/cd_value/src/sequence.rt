@@ -1,4 +1,7 @@
 //! A list of values that contracts see as a list.
+ghost use Rattle.std.proofs.Common.{rules};
+ghost use Rattle.std.specs.Cmp.Lexicographic.{pointwise};
+ghost use Rattle.std.specs.Cmp.Rules.{comparing};
 ghost use Rattle.std.specs.Prelude.{OnErr, OnOk, [], length, ◌++◌, ◌==◌, ◌∷◌, ◌≡◌};
 
 use crate::{Memory, TryCopy};
@@ -17,6 +20,20 @@ impl<T> Model for Sequence<T> {
     ghost Value = { List T };
 
     ghost view = { λ s. s.items.items };
+}
+
+impl<T: PartialEq> PartialEq for Sequence<T> {
+    ghost eq = { pointwise T.eq };
+
+    ghost laws = { Prim.search (comparing, rules) };
+
+    fn eq(&self, other: &Sequence<T>) -> bool {
+        self.items == other.items
+    }
+}
+
+impl<T: Eq> Eq for Sequence<T> {
+    ghost laws = { Prim.search (comparing, rules) };
 }
 
 impl<T> Sequence<T> {

@@ -5,13 +5,13 @@
 //! keeping what it said.
 #![tactic(auto)]
 
-ghost use Rattle.std.specs.Prelude.{IfOk, length, ◌≤◌};
-
 use cd_io::{LinkPlan, MemFile, MemLink, MemWorld};
-use cd_registry::{Kinds, Telling};
-use cd_serve::{End, RanOf, ShelvedOf, ShelvedProbeOf, run_of};
+use cd_plugins::Telling;
+use cd_registry::{Kinds, Probe};
+use cd_serve::{End, RanOf, ShelvedOf, ShelvedProbe, check_shelves, run_of};
 use cd_value::{Memory, SECOND, Text};
 use std::alloc::Global;
+use std::marker::Send;
 use std::process::ExitCode;
 
 /// The configuration. The chain before the cache replaces a field where a pattern is found in it; the one behind it
@@ -45,7 +45,10 @@ fn main(rt: HostRuntime) -> ExitCode {
 fn ends_well(alloc: Global) -> Result<bool, Memory> {
     let words = words(alloc)?;
     let plugs = shelf(alloc)?;
-    let probes: Vec<ShelvedProbeOf<()>> = Vec::new(alloc);
+    let probes: Vec<ShelvedProbe> = Vec::new(alloc);
+    if check_shelves(plugs.as_slice(), probes.as_slice()).is_err() {
+        return Ok(false);
+    }
     let mut world = MemWorld::new(alloc, (2_000_000_000 * SECOND, SECOND), (5, 3));
     for (path, text) in [("c", CONFIGURATION), ("types.db", TYPES)] {
         world.add_file(MemFile::of(alloc, path, text.as_bytes())?)?;
@@ -65,7 +68,7 @@ fn ends_well(alloc: Global) -> Result<bool, Memory> {
 }
 
 /// Whether all lines were answered, or memory was lacking and the answers are a beginning; the writer is back.
-fn is_well(ran: &RanOf<Telling, ()>, output: &[u8]) -> bool {
+fn is_well(ran: &RanOf<Telling, Box<dyn Probe + Send>>, output: &[u8]) -> bool {
     let whole = REPLIES.as_bytes();
     let back = ran.plugs.len() == 1;
     match ran.end {
@@ -85,9 +88,7 @@ fn words(alloc: Global) -> Result<Vec<String>, Memory> {
 }
 
 /// A shelf with the writer `w`.
-fn shelf(alloc: Global) -> Result<Vec<ShelvedOf<Telling>>, Memory>
-    ensures few { IfOk result (λ plugs. length plugs.items ≤ 1) }
-{
+fn shelf(alloc: Global) -> Result<Vec<ShelvedOf<Telling>>, Memory> {
     let plug = ShelvedOf {
         name: Text::of(alloc, "w")?,
         kinds: Kinds::WRITE,

@@ -1,5 +1,5 @@
 //! The program `collectd` once more: given `-C FILE -t` it tests a configuration, as in collectd.conf(5), and writes
-//! its canonical text. Its stored run is one over a configuration that names a types file.
+//! its canonical text. Its stored run is one over a configuration that names a types file and has a filter chain.
 #![tactic(auto)]
 
 use std::process::ExitCode;

@@ -2,5 +2,5 @@ use Rattle.cd_registry.proofs.Ats.{found_live}
 use Rattle.cd_registry_cost.proofs.post.Goals as goal
 use Rattle.std.proofs.Common.{sym, ◌∙◌, ◌≡◌}
 
-pub post-requires-after_bounds : goal.post-requires-after_bounds
-post-requires-after_bounds g c κs within = found_live 1 c.args.name.now _ c.in-Some.reg (sym c.find.ensures.number ∙ c.in-Some.is)
+pub post-requires : goal.post-requires
+post-requires g c = found_live 1 c.args.name.now _ c.in-Some.reg (sym c.find.ensures.number ∙ c.in-Some.is)

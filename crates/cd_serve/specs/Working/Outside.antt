@@ -1,15 +1,17 @@
 -- What moments, words and calls do to what the outside of a daemon tells.
-use Rattle.cd_history.specs.declared.given.Given.TheVariants.{Answered}
+use Rattle.cd_core.specs.Seen.{CoreSeen}
+use Rattle.cd_core.specs.Stands.{Stands}
+use Rattle.cd_daemon.specs.Answers.{next_call, ready}
+use Rattle.cd_daemon.specs.declared.Opening.{Opening}
+use Rattle.cd_history.specs.History.{History, ◌▸◌}
+use Rattle.cd_history.specs.declared.entry.Entry.TheVariants as entry
 use Rattle.cd_history.specs.declared.given.Given.{Given}
 use Rattle.cd_io.specs.Told.{clock_after, dice_after}
-use Rattle.cd_registry.specs.Told.{told_after, told_after_all}
 use Rattle.cd_registry.specs.declared.calls.Answer.{Answer}
-use Rattle.cd_registry.specs.declared.calls.AnsweredCall.{AnsweredCall}
 use Rattle.cd_registry.specs.declared.calls.Call.{Call}
 use Rattle.cd_serve.specs.Tells.{Pairs, moments, words}
-use Rattle.cd_transcript.specs.LineRuns.{OnShelf}
 use Rattle.std.specs.Option.{option_map}
-use Rattle.std.specs.Prelude.{IfSome, List, None, Option, Some, [], map, ℕ, ◌∷◌, ◌≡◌}
+use Rattle.std.specs.Prelude.{IfSome, List, Option, Some, [], ℕ, ◌∷◌, ◌≡◌}
 
 abbrev pub after_moment : Pairs → Pairs
 after_moment pairs = record { clock = option_map clock_after pairs.clock; dice = pairs.dice }
@@ -28,21 +30,14 @@ pub record GaveAllUpTo (begun last : Pairs) (given : List Given) : Type 0 where
   pub moments : GaveUpTo clock_after begun.clock (moments given) last.clock
   pub words : GaveUpTo dice_after begun.dice (words given) last.dice
 
--- the first plug-in was called and gave that answer
-abbrev pub called_first : Call → Answer → List OnShelf → List OnShelf
-called_first call answer [] = []
-called_first call answer (plug ∷ plugs) = record plug { tells = told_after call answer plug.tells } ∷ plugs
+-- the least plug-in that was ready was taken for its oldest call, entered, and brought home with this answer
+pub record Calls (K : Opening) (P : History) (answer : Answer) (new : CoreSeen) : Type 0 where
+  pub reg : ℕ
+  pub call : Call
+  pub was_ready : ready K P ≡ Some reg
+  pub its_call : next_call K P reg ≡ Some call
+  pub stands : Stands K new (P ▸ entry.Take 0 reg call ▸ entry.Done 0 reg answer)
 
--- the first plug-in was called, and gave an answer where there is one
-abbrev pub Called : Call → Option Answer → List OnShelf → List OnShelf → Type 0
-Called call None old new = (old ≡ []) × (new ≡ old)
-Called call (Some answer) old new = new ≡ called_first call answer old
-
--- the first plug-in was called with these and gave these answers, in order
-abbrev pub called_in_order : List AnsweredCall → List OnShelf → List OnShelf
-called_in_order cs [] = []
-called_in_order cs (plug ∷ plugs) = record plug { tells = told_after_all cs plug.tells } ∷ plugs
-
--- what was given by that
-abbrev pub answers_given : List AnsweredCall → List Given
-answers_given cs = map (λ (c : AnsweredCall). Answered c.answer) cs
+-- .. whatever is in force, and after any history
+abbrev pub WasCalled : Answer → CoreSeen → CoreSeen → Type 0
+WasCalled answer old new = (K : Opening) (P : History) → Stands K old P → Calls K P answer new

@@ -9,7 +9,8 @@ invariant-loop-evaluation g l =
     let scene : Scene = record { set = l.set; rates = g.V.RateView.rates_at l.view; now = l.now } in
     record {
       same : l.chains ≡ l.fn.chains;
-      means : meaning scene l.fn.chains l.evaluation ≡ run_numbered scene l.fn.chains l.chain l.fn.list;
+      given : l.evaluation.given.now ≡ l.list;
+      means : meaning scene l.fn.chains l.evaluation ≡ run_numbered scene l.fn.chains l.chain l.list;
     }
 
 abbrev pub decreases-loop-evaluation : goal.decreases-loop-evaluation

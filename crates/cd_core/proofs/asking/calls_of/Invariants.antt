@@ -1,5 +1,5 @@
 use Rattle.cd_core.proofs.asking.calls_of.Given as goal
-use Rattle.cd_core.specs.Flushes.{flush_calls_to}
+use Rattle.cd_daemon.specs.Flushes.{flush_calls_to}
 use Rattle.std.proofs.Common.{take, ◌≡◌}
 use Rattle.std.specs.List.{flat_map}
 

@@ -5,4 +5,4 @@ use Rattle.std.proofs.Common.{map, take, ◌≡◌}
 
 abbrev pub invariant-loop-name : goal.invariant-loop-name
 invariant-loop-name g l =
-    l.plugins.items ≡ map (flusher_in (rows g.P.Plug.plug_tells g.Q.Probe.probe_tells l.registry)) (take l.name-index l.names)
+    l.plugins.items ≡ map (flusher_in (rows g.P.TellsCalls.plug_tells g.Q.TellsReadings.probe_tells l.registry)) (take l.name-index l.names)

@@ -1,5 +1,4 @@
 use Rattle.cd_core.proofs.asking.push_named.Given as goal
-use Rattle.cd_daemon.specs.Performing.{Post}
 use Rattle.cd_registry.specs.declared.calls.Call.TheVariants as calls
 use Rattle.std.proofs.Common.{List, Option, Some, map, take, ℕ, ◌++◌, ◌≡◌}
 

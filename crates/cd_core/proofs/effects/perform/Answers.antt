@@ -8,7 +8,7 @@ pub returns-in-Write : goal.returns-in-Write
 returns-in-Write g c =
     on_ok c.write_to_named.result
     (λ says regs finds.
-    says regs c.args.writers.now finds
+    says regs finds
     ∙ ap (written regs c.in-Write.list c.args.effects.now) c.as_slice.ensures
     ∙ sym (performed_named regs c.args.effects.now c.in-Write.list c.in-Write.names (sym c.is_empty.ensures ∙ c.if-is_empty.false))
     ∙ ap (perform regs c.args.effects.now) (sym c.in-Write.is))

@@ -7,5 +7,5 @@ use Rattle.std.proofs.Common.{List, ◌≡◌}
 
 abbrev pub invariant-loop-action : goal.invariant-loop-action
 invariant-loop-action g l =
-    (regs : List Registration) → Finds regs l.writers (rows g.P.Plug.plug_tells g.Q.Probe.probe_tells l.registry)
+    (regs : List Registration) → Finds regs l.writers (rows g.P.TellsCalls.plug_tells g.Q.TellsReadings.probe_tells l.registry)
     → perform_all regs l.action-iterator.rest.items l.effects ≡ perform_all regs l.initial.action-iterator.rest.items l.fn.effects

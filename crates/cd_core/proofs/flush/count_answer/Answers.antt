@@ -1,6 +1,6 @@
 use Rattle.cd_core.proofs.flush.count_answer.Goals as goal
 use Rattle.cd_core.specs.UnderWay.{counted_as}
-use Rattle.std.proofs.Common.{ap, arith, get_or, length, set, ◌<◌, ◌∙◌}
+use Rattle.std.proofs.Common.{ap, arith, length, set, ◌<◌, ◌∙◌}
 use Rattle.std.proofs.lemmas.List.Edits.{map_over_more}
 use Rattle.std.proofs.lemmas.List.{get_or_default}
 

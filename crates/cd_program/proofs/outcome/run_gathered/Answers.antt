@@ -1,10 +1,16 @@
 use Rattle.cd_program.proofs.Behind.{completes_so, ends_so, promises_gathered, promises_link, same_places, tried_so, unheard_so}
 use Rattle.cd_serve.specs.Started.{IsFree}
 use Rattle.cd_program.proofs.outcome.run_gathered.Goals as goal
+use Rattle.cd_serve.proofs.Loadable.{one_loadable}
+use Rattle.std.proofs.Common.{codes, refl}
+
+pub run-ran-requires-clause-loadable : goal.run-ran-requires-clause-loadable
+run-ran-requires-clause-loadable g c = λ _ _.
+    one_loadable _ _ (codes "w") c.in-Ok.ensures.names c.new.ensures.items refl
 
 pub returns-clause-promises : goal.returns-clause-promises
 returns-clause-promises g c =
-    promises_gathered _ _ _ _ _ _ _ _ _ _ _ c.run-ran.result.end _ _ c.in-Ok.ensures c.new-gathering.ensures.tells
+    promises_gathered _ _ _ _ _ _ _ _ _ _ _ c.run-ran.result.end _ _ c.in-Ok.ensures.shelf c.new-gathering.ensures.tells
     c.run-ran.ensures.promises c.finish-link.ensures.finishes c.end_after.ensures
 
 pub returns-clause-link : goal.returns-clause-link
@@ -29,4 +35,4 @@ returns-clause-complete g c = λ of is accepted none fine taken.
     (c.run-ran.ensures.complete of is accepted none) fine taken
 
 pub returns-clause-back : goal.returns-clause-back
-returns-clause-back g c = same_places _ _ _ c.in-Ok.ensures c.run-ran.ensures.back
+returns-clause-back g c = same_places _ _ _ c.in-Ok.ensures.shelf c.run-ran.ensures.back

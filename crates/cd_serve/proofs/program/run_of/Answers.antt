@@ -1,9 +1,18 @@
 use Rattle.cd_serve.proofs.Outcomes.{done_refused, done_served, fault_accepted, fault_refused, written}
+use Rattle.cd_serve.proofs.Settled.{none_blocked, settings_bounded}
 use Rattle.cd_serve.proofs.program.run_of.Goals as goal
 use Rattle.cd_serve.specs.Started.{IsFree}
 use Rattle.cd_serve.specs.declared.end.End.TheVariants as ends
 use Rattle.cd_serve.specs.declared.end.End.{End}
 use Rattle.std.proofs.Common.{map, string_bytes, subst, sym, ◌≡◌, ◌⊎◌}
+
+pub serve_lines-requires-clause-bounded : goal.serve_lines-requires-clause-bounded
+serve_lines-requires-clause-bounded g c = λ _ _.
+    settings_bounded c.in-Ok.started.0.file (g.W.World.world_tells c.args.world.now).files c.in-Ok.started.1 c.in-Ok.ensures.comes
+
+pub serve_lines-requires-clause-blocks : goal.serve_lines-requires-clause-blocks
+serve_lines-requires-clause-blocks g c = λ _ _.
+    none_blocked c.in-Ok.started.0.file (g.W.World.world_tells c.args.world.now).files c.in-Ok.started.1 c.in-Ok.ensures.comes
 
 pub returns-in-Err-clause-faults : goal.returns-in-Err-clause-faults
 returns-in-Err-clause-faults g c =

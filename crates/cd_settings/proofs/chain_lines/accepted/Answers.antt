@@ -9,7 +9,7 @@ use Rattle.cd_settings.specs.declared.fault.SettingsFault.{SettingsFault}
 pub returns-in-Ok : goal.returns-in-Ok
 returns-in-Ok c = is_accepted c.args.items.now c.args.chains c.in-Ok.table c.in-Ok.ensures.ok c.in-Ok.ensures.accepted
 
-pub returns-in_ok-chain_fault-in-Err : goal.returns-in_ok-chain_fault-in-Err
-returns-in_ok-chain_fault-in-Err c =
-    subst (λ (x : SettingsFault). Refuses (settings_fault x) (accepted c.args.items.now c.args.chains)) (sym c.in_ok-chain_fault-in-Err.ensures)
+pub returns-in-Err : goal.returns-in-Err
+returns-in-Err c =
+    subst (λ (x : SettingsFault). Refuses (settings_fault x) (accepted c.args.items.now c.args.chains)) (sym c.chain_fault.ensures)
     (is_refused c.args.items.now c.args.chains c.in-Err.refused.why c.in-Err.ensures.cause)

@@ -3,7 +3,8 @@ use Rattle.cd_sock.proofs.Frames.{rows_framed}
 use Rattle.cd_sock.proofs.Printed.{rows_shown}
 use Rattle.cd_sock.proofs.reply.print_rows.Goals as goal
 use Rattle.cd_sock.specs.Framing.{IsFramed}
-use Rattle.cd_sock.specs.Replies.{row_line, shown, values_found}
+use Rattle.cd_sock.specs.Replies.{row_line, values_found}
+use Rattle.cd_value.specs.Rows.{as_rows}
 use Rattle.std.proofs.Common.{Bor, List, ap, length, subst, sym, ℕ, ◌++◌, ◌<◌, ◌^◌, ◌∙◌}
 use Rattle.std.proofs.lemmas.List.{length-map, take_all}
 use Rattle.std.specs.List.{flat_map}
@@ -19,5 +20,5 @@ returns-clause-text c =
 pub returns-clause-framed : goal.returns-clause-framed
 returns-clause-framed c = λ plain.
     let rows = c.args.rows.now in
-    let few : length (shown rows) < 2 ^ 64 = subst (λ (n : ℕ). n < 2 ^ 64) (sym (length-map rows (λ (row : ℕ × Bor (List ℕ)). (row.0, row.1.now)))) c.print_count.ensures.few in
-    subst (λ (text : List ℕ). IsFramed text) (sym (returns-clause-text c)) (rows_framed (shown rows) few plain)
+    let few : length (as_rows rows) < 2 ^ 64 = subst (λ (n : ℕ). n < 2 ^ 64) (sym (length-map rows (λ (row : ℕ × Bor (List ℕ)). (row.0, row.1.now)))) c.print_count.ensures.few in
+    subst (λ (text : List ℕ). IsFramed text) (sym (returns-clause-text c)) (rows_framed (as_rows rows) few plain)

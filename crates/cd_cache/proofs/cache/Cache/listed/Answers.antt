@@ -5,7 +5,8 @@ use Rattle.cd_cache.proofs.Names.{names_of_rows}
 use Rattle.cd_cache.proofs.cache.Cache.listed.Goals as goal
 use Rattle.cd_cache.specs.Cache.{name_order}
 use Rattle.cd_cache.specs.Index.{by_name, found}
-use Rattle.cd_cache.specs.Rows.{names_of, rows_of, shown}
+use Rattle.cd_cache.specs.Rows.{names_of, rows_of}
+use Rattle.cd_value.specs.Rows.{as_rows}
 use Rattle.std.proofs.Common.{Bor, List, [], ap, append-nil, map, subst, sym, ℕ, ◌++◌, ◌∙◌, ◌∷◌, ◌≡◌}
 use Rattle.std.proofs.lemmas.List.Elements.{All-head, All-tail}
 use Rattle.std.proofs.lemmas.Map.Iter.{rest_all, rest_more}
@@ -20,7 +21,7 @@ loop-name-init c =
     let all : List (List ℕ) = c.into_iter-name-iterator.result in
     let start : all ≡ c.self.inside.index.names = c.into_iter-name-iterator.ensures.into_iter_gives.0 ∙ c.names-names.ensures in
     record {
-      rows = ap (λ (rows : List (ℕ × Bor (List ℕ))). shown rows ++ map (row_at entries) all) c.in_ok-rows.ensures.items;
+      rows = ap (λ (rows : List (ℕ × Bor (List ℕ))). as_rows rows ++ map (row_at entries) all) c.in_ok-rows.ensures.items;
       there = subst (λ (names : List (List ℕ)). All (λ (name : List ℕ). IsSome (found entries name)) names) (sym start) (all_found entries c.self.inside.index.names c.self.invariant.named);
     }
 
@@ -38,9 +39,9 @@ loop-name-preserved c =
     let rest : c.loop-name.name-iterator ≡ c.in-Some.name.now ∷ c.next.new.self = rest_more deref c.loop-name.name-iterator c.next.new.self c.next.result c.in-Some.name c.in-Some.is c.next.ensures.steps in
     record {
       rows =
-          ap (λ (rows : List (ℕ × Bor (List ℕ))). shown rows ++ map (row_at entries) c.next.new.self) c.in_ok-push.ensures.items
+          ap (λ (rows : List (ℕ × Bor (List ℕ))). as_rows rows ++ map (row_at entries) c.next.new.self) c.in_ok-push.ensures.items
           ∙ one_more (row_at entries) so_far (c.index-entry.result.now.list.time, c.in-Some.name) c.next.new.self (row_found entries c.in-Some.name.now c.index-entry.result.now c.index-entry.ensures)
-          ∙ ap (λ (names : List (List ℕ)). shown so_far ++ map (row_at entries) names) (sym rest)
+          ∙ ap (λ (names : List (List ℕ)). as_rows so_far ++ map (row_at entries) names) (sym rest)
           ∙ c.loop-name.invariant.rows;
       there = All-tail (λ (name : List ℕ). IsSome (found entries name)) c.in-Some.name.now c.next.new.self
           (subst (λ (names : List (List ℕ)). All (λ (name : List ℕ). IsSome (found entries name)) names) rest c.loop-name.invariant.there);
@@ -50,7 +51,7 @@ pub returns-clause-rows : goal.returns-clause-rows
 returns-clause-rows c =
     let entries = c.self.inside.entries.entries in
     let names = c.self.inside.index.names in
-    let so_far = shown c.loop-name.rows.items in
+    let so_far = as_rows c.loop-name.rows.items in
     let left : c.loop-name.name-iterator ≡ [] = rest_all deref c.loop-name.name-iterator c.next.new.self c.next.result c.in-None.is c.next.ensures.steps in
     let start : c.into_iter-name-iterator.result ≡ names = c.into_iter-name-iterator.ensures.into_iter_gives.0 ∙ c.names-names.ensures in
     let sorted : IsStrictlySortedBy name_order names = subst (λ (ns : List (List ℕ)). IsStrictlySortedBy name_order ns) c.names-names.ensures c.len.ensures.ordered in

@@ -1,6 +1,6 @@
 use Rattle.cd_core.proofs.Begun.{began, not_begun}
 use Rattle.cd_core.proofs.state.Core.flush_begin.Goals as goal
-use Rattle.cd_core.specs.Flushes.{counted, flush_calls_to, names_meant}
+use Rattle.cd_daemon.specs.Flushes.{counted, flush_calls_to, names_meant}
 use Rattle.cd_core.specs.Posting.{posted_live}
 use Rattle.cd_core.specs.declared.flush.Flush.{Flush}
 use Rattle.cd_daemon.specs.Performing.{Post}

@@ -18,11 +18,11 @@ returns-clause-step g c = λ actor.
     handled _ _ _ _ _ _ list c.in-Some-set_of.set.now prepared actor c.args.now c.in-Ok.field-0.how _ first
     c.in-Some-set_of.ensures
     (λ regs found.
-    let F : List ℕ → Type 0 = λ writers. Finds regs writers (rows g.P.Plug.plug_tells g.Q.Probe.probe_tells c.args.self.now.registry) in
+    let F : List ℕ → Type 0 = λ writers. Finds regs writers (rows g.P.TellsCalls.plug_tells g.Q.TellsReadings.probe_tells c.args.self.now.registry) in
     c.in-Ok.ensures.handling regs (subst F (sym c.as_slice.ensures.value) found))
     c.in-Ok.ensures.same c.in-Some-pop.ensures.limits c.in-Some-pop.ensures.rest
     (c.post_prepared-skipped.ensures.rows
-    ∙ ap (λ (l : ValueList). posted_live (prepared_posts l prepared) (rows g.P.Plug.plug_tells g.Q.Probe.probe_tells c.work_out-worked.new.registry)) same
+    ∙ ap (λ (l : ValueList). posted_live (prepared_posts l prepared) (rows g.P.TellsCalls.plug_tells g.Q.TellsReadings.probe_tells c.work_out-worked.new.registry)) same
     ∙ ap (posted_live (prepared_posts list prepared)) c.in-Ok.ensures.rows)
     c.in-Ok.ensures.ok c.in-Ok.ensures.how c.post_prepared-skipped.ensures.skipped
 

@@ -7,4 +7,4 @@ returns-clause-step g c = λ actor. retired _ _ actor c.args.reg c.retire.result
 
 pub returns-clause-told : goal.returns-clause-told
 returns-clause-told g c =
-    IfOk-weaker c.retire.result _ _ (λ member at. tells_home _ c.args.reg _ (member_home g.P.Plug.plug_tells g.Q.Probe.probe_tells member) at) c.retire.ensures.member
+    IfOk-weaker c.retire.result _ _ (λ member at. tells_home _ c.args.reg _ (member_home g.P.TellsCalls.plug_tells g.Q.TellsReadings.probe_tells member) at) c.retire.ensures.member

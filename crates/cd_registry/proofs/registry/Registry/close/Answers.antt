@@ -6,7 +6,7 @@ use Rattle.std.proofs.Common.{arith, refl}
 
 pub invariant_of-self : goal.invariant_of-self
 invariant_of-self g c = record {
-  marked = ready_kept g.P.Plug.plug_tells g.Q.Probe.probe_tells _ _ _ _ _ _ c.index_mut.ensures.value c.close.ensures.row refl c.args.self.now.marked;
+  marked = ready_kept g.P.TellsCalls.plug_tells g.Q.TellsReadings.probe_tells _ _ _ _ _ _ c.index_mut.ensures.value c.close.ensures.row refl c.args.self.now.marked;
 }
 
 pub returns-clause-ok : goal.returns-clause-ok

@@ -12,11 +12,11 @@ returns-clause-number g c =
     let kinds = c.args.kinds.0 in
     c.as_number.ensures
     ∙ (rw c.deref.ensures.value at c.slot_with.ensures)
-    ∙ sym (position-map (row_of g.P.Plug.plug_tells g.Q.Probe.probe_tells) (λ row. is_live_as name row && has_kinds kinds row)
+    ∙ sym (position-map (row_of g.P.TellsCalls.plug_tells g.Q.TellsReadings.probe_tells) (λ row. is_live_as name row && has_kinds kinds row)
     (λ slot. is_slot_live_as name slot && has_slot_kinds kinds slot) (λ slot. refl) c.args.self.now.slots.items)
 
 pub returns-clause-live : goal.returns-clause-live
 returns-clause-live g c =
-    let shown = rows g.P.Plug.plug_tells g.Q.Probe.probe_tells c.args.self.now in
+    let shown = rows g.P.TellsCalls.plug_tells g.Q.TellsReadings.probe_tells c.args.self.now in
     some_is c.as_number.result (λ reg. At shown reg IsLive)
     (λ reg found. found_live c.args.kinds.0 c.args.name.now shown reg (sym (returns-clause-number g c) ∙ found))

@@ -8,7 +8,7 @@ use Rattle.std.proofs.lemmas.List.{get_or-set_same}
 
 pub invariant_of-self : goal.invariant_of-self
 invariant_of-self g c =
-    let show = row_of g.P.Plug.plug_tells g.Q.Probe.probe_tells in
+    let show = row_of g.P.TellsCalls.plug_tells g.Q.TellsReadings.probe_tells in
     let slots = c.args.self.now.slots.items in
     let reg = c.args.entered.reg in
     let new = c.put.new.self in
@@ -19,10 +19,10 @@ invariant_of-self g c =
     }
 
 pub returns-clause-rows : goal.returns-clause-rows
-returns-clause-rows g c = changed _ (after_give (g.P.Plug.plug_tells c.args.entered.object)) _ _ _ _ c.index_mut.ensures.value c.put.ensures.row
+returns-clause-rows g c = changed _ (after_give (g.P.TellsCalls.plug_tells c.args.entered.object)) _ _ _ _ c.index_mut.ensures.value c.put.ensures.row
 
 pub returns-clause-room : goal.returns-clause-room
 returns-clause-room g c =
-    let show = row_of g.P.Plug.plug_tells g.Q.Probe.probe_tells in
+    let show = row_of g.P.TellsCalls.plug_tells g.Q.TellsReadings.probe_tells in
     let slots = c.args.self.now.slots.items in
     room_kept slots c.args.entered.reg c.index_mut.result.now c.put.new.self c.index_mut.ensures.value (within show slots c.args.entered.reg IsPlugOut c.requires) (omega (arith, c.put.ensures.spare))

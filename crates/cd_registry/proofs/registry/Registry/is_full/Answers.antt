@@ -6,5 +6,5 @@ use Rattle.std.proofs.Common.{ap, nat_le, sym, ◌∙◌}
 
 pub returns : goal.returns
 returns g c =
-    let count = count-map (row_of g.P.Plug.plug_tells g.Q.Probe.probe_tells) (λ row. row.live) c.args.self.now.slots.items in
+    let count = count-map (row_of g.P.TellsCalls.plug_tells g.Q.TellsReadings.probe_tells) (λ row. row.live) c.args.self.now.slots.items in
     ap (λ n. nat_le LIVE_LIMIT n) ((rw c.deref.ensures.value at c.live_slots.ensures) ∙ sym count)

@@ -7,4 +7,4 @@ use Rattle.std.proofs.Common.{refl, sym, ◌∙◌}
 pub returns-clause-number : goal.returns-clause-number
 returns-clause-number g c =
     rw c.deref.ensures.value at c.slot_named.ensures.index
-    ∙ sym (position-map (row_of g.P.Plug.plug_tells g.Q.Probe.probe_tells) (is_live_as c.args.name.now) (is_slot_live_as c.args.name.now) (λ slot. refl) c.args.self.now.slots.items)
+    ∙ sym (position-map (row_of g.P.TellsCalls.plug_tells g.Q.TellsReadings.probe_tells) (is_live_as c.args.name.now) (is_slot_live_as c.args.name.now) (λ slot. refl) c.args.self.now.slots.items)

@@ -8,7 +8,7 @@ use Rattle.std.proofs.lemmas.List.{get_or-set_same}
 
 pub invariant_of-self : goal.invariant_of-self
 invariant_of-self g c =
-    let show = row_of g.P.Plug.plug_tells g.Q.Probe.probe_tells in
+    let show = row_of g.P.TellsCalls.plug_tells g.Q.TellsReadings.probe_tells in
     let slots = c.args.self.now.slots.items in
     let new = c.post-posted.new.self in
     let here = get_or-set_same slots c.args.reg new c.index.result.now (within show slots c.args.reg IsLive c.requires) in
@@ -25,6 +25,6 @@ returns-clause-err g c = on_err c.post-posted.result (unchanged _ _ _ _ _ c.inde
 
 pub returns-clause-spare : goal.returns-clause-spare
 returns-clause-spare g c =
-    let show = row_of g.P.Plug.plug_tells g.Q.Probe.probe_tells in
+    let show = row_of g.P.TellsCalls.plug_tells g.Q.TellsReadings.probe_tells in
     let slots = c.args.self.now.slots.items in
     room_used slots c.args.reg 1 _ _ c.index_mut.ensures.value (within show slots c.args.reg IsLive c.requires) c.post-posted.ensures.spare

@@ -8,8 +8,8 @@ use Rattle.std.specs.List.{position}
 
 pub returns : goal.returns
 returns g c =
-    let plug = g.P.Plug.plug_tells in
-    let probe = g.Q.Probe.probe_tells in
+    let plug = g.P.TellsCalls.plug_tells in
+    let probe = g.Q.TellsReadings.probe_tells in
     let slots = c.args.self.now.slots.items in
     c.as_number.ensures
     ∙ c.first.ensures

@@ -7,12 +7,12 @@ use Rattle.std.proofs.Common.{refl}
 
 pub invariant_of-self : goal.invariant_of-self
 invariant_of-self g c = record {
-  marked = ready_kept g.P.Plug.plug_tells g.Q.Probe.probe_tells _ _ _ _ _ _ c.index_mut.ensures.value c.reserve.ensures.row refl c.args.self.now.marked;
+  marked = ready_kept g.P.TellsCalls.plug_tells g.Q.TellsReadings.probe_tells _ _ _ _ _ _ c.index_mut.ensures.value c.reserve.ensures.row refl c.args.self.now.marked;
 }
 
 pub returns-clause-ok : goal.returns-clause-ok
 returns-clause-ok g c =
-    let show = row_of g.P.Plug.plug_tells g.Q.Probe.probe_tells in
+    let show = row_of g.P.TellsCalls.plug_tells g.Q.TellsReadings.probe_tells in
     let slots = c.args.self.now.slots.items in
     let room = room_of slots c.args.reg c.index_mut.result.now c.reserve.new.self c.index_mut.ensures.value (within show slots c.args.reg IsLive c.requires) in
     on_ok c.reserve.result (λ enough. rw room enough) c.reserve.ensures.ok
@@ -22,6 +22,6 @@ returns-clause-rows g c = unchanged _ _ _ _ _ c.index_mut.ensures.value c.reserv
 
 pub returns-clause-spare : goal.returns-clause-spare
 returns-clause-spare g c =
-    let show = row_of g.P.Plug.plug_tells g.Q.Probe.probe_tells in
+    let show = row_of g.P.TellsCalls.plug_tells g.Q.TellsReadings.probe_tells in
     let slots = c.args.self.now.slots.items in
     room_kept slots c.args.reg _ _ c.index_mut.ensures.value (within show slots c.args.reg IsLive c.requires) c.reserve.ensures.spare

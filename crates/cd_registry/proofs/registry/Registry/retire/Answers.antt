@@ -14,17 +14,17 @@ invariant_of-self g c = record {
 
 pub returns-clause-fault : goal.returns-clause-fault
 returns-clause-fault g c =
-    let show = row_of g.P.Plug.plug_tells g.Q.Probe.probe_tells in
+    let show = row_of g.P.TellsCalls.plug_tells g.Q.TellsReadings.probe_tells in
     let slots = c.args.self.now.slots.items in
     let here = shown_at show slots c.args.reg c.index_mut.result.now (omega (arith, length-map slots show)) c.index_mut.ensures.value in
     c.retire.ensures.fault ∙ sym (ap retire_fault here)
 
 pub returns-clause-member : goal.returns-clause-member
 returns-clause-member g c =
-    let show = row_of g.P.Plug.plug_tells g.Q.Probe.probe_tells in
+    let show = row_of g.P.TellsCalls.plug_tells g.Q.TellsReadings.probe_tells in
     let slots = c.args.self.now.slots.items in
     if_ok c.retire.result (λ member home.
-    at_here show (λ row. row.place ≡ home_of (member_tells g.P.Plug.plug_tells g.Q.Probe.probe_tells member)) slots c.args.reg c.index_mut.result.now
+    at_here show (λ row. row.place ≡ home_of (member_tells g.P.TellsCalls.plug_tells g.Q.TellsReadings.probe_tells member)) slots c.args.reg c.index_mut.result.now
     (omega (arith, length-map slots show)) c.index_mut.ensures.value home)
     c.retire.ensures.member
 

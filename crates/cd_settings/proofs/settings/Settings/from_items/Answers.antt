@@ -18,5 +18,5 @@ returns-in-Ok c =
 pub returns-in-Err : goal.returns-in-Err
 returns-in-Err c =
     let items : List Item = c.args.items.now in
-    subst (λ (x : SettingsFault). Refuses (told_of items x) (settings_of items)) (sym c.told.ensures)
+    subst (λ (x : SettingsFault). Refuses (told_of items x) (settings_of items)) (sym c.as_settings_fault.ensures)
     (told_as items c.in-Err.fault (configuration_of items) (finished items) c.in-Err.ensures)
